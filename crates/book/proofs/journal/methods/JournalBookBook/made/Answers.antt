@@ -1,0 +1,5 @@
+use Rattle.book.proofs.Posting.{lawful-journal}
+use Rattle.book.proofs.journal.methods.JournalBookBook.made.Needs as need
+
+pub returns : need.returns
+returns c = record { value = c .len .ensures; lawful = lawful-journal (c .args .self .now) }

@@ -1,0 +1,4 @@
+pub mod Ranges
+pub mod Refusals
+pub mod Codes
+pub mod Settings
