@@ -33,11 +33,11 @@ pub added-at : (bs : List ℤ) (a k : ℕ) (z : ℤ) → a < length bs → getD 
 added-at bs a k z h =
     ⊎-elim
     (λ (s : a ≡ k).
-        ap (λ (n : ℕ). getD (added bs a z) n (pos 0)) (sym s) ∙ getD-set-same bs a (getD bs a (pos 0) +ℤ z) (pos 0) h
-        ∙ ap (λ (n : ℕ). getD bs n (pos 0) +ℤ z) s ∙ ap (λ (y : ℤ). getD bs k (pos 0) +ℤ y) (sym (only-same a k z s)))
+    ap (λ (n : ℕ). getD (added bs a z) n (pos 0)) (sym s) ∙ getD-set-same bs a (getD bs a (pos 0) +ℤ z) (pos 0) h
+    ∙ ap (λ (n : ℕ). getD bs n (pos 0) +ℤ z) s ∙ ap (λ (y : ℤ). getD bs k (pos 0) +ℤ y) (sym (only-same a k z s)))
     (λ (d : a ≡ k → ⊥).
-        let o = only-other a k z d in
-        getD-set-other bs a k (getD bs a (pos 0) +ℤ z) (pos 0) (λ e. d (sym e)) ∙ omega (arith, ints))
+    let o = only-other a k z d in
+    getD-set-other bs a k (getD bs a (pos 0) +ℤ z) (pos 0) (λ e. d (sym e)) ∙ omega (arith, ints))
     (cases-eq a k)
 
 -- the payer's balance lowered, then the payee's raised
@@ -80,10 +80,11 @@ lawful-entered m p q n h hp hq a =
     let both = together-add 256 (m .balance) (shift p q n) in
     let none = together-shift 256 p q n hp hq in
     let room = a .room in
-    record
-    { few = omega arith
-    ; even = omega (arith, ints)
-    ; near = λ k l. omega (arith, h .near k l, natAbs-add (m .balance k) (shift p q n k), shift-small p q n k (a .apart), a .small) }
+    record {
+      few = omega arith;
+      even = omega (arith, ints);
+      near = λ k l. omega (arith, h .near k l, natAbs-add (m .balance k) (shift p q n k), shift-small p q n k (a .apart), a .small);
+    }
 
 pub lawful-fresh : (n : ℕ) → n ≤ 65536 → Lawful (fresh n)
 lawful-fresh n h = record { few = omega arith; even = together-nil 256; near = λ k l. omega arith }

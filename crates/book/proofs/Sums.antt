@@ -45,10 +45,10 @@ module _ (p q n k : ℕ) where
       ⊎-elim
       (λ (a : q ≡ k). rw (shift-payee d a) (omega arith))
       (λ (a : q ≡ k → ⊥).
-          ⊎-elim
-          (λ (b : p ≡ k). rw (shift-payer a b) (omega (arith, natAbs-neg (pos n))))
-          (λ (b : p ≡ k → ⊥). rw (shift-other a b) (omega arith))
-          (cases-eq p k))
+      ⊎-elim
+      (λ (b : p ≡ k). rw (shift-payer a b) (omega (arith, natAbs-neg (pos n))))
+      (λ (b : p ≡ k → ⊥). rw (shift-other a b) (omega arith))
+      (cases-eq p k))
       (cases-eq q k)
 
 pub together-nil : (n : ℕ) → together n (λ k. pos 0) ≡ pos 0
@@ -80,13 +80,13 @@ together-only zero a z h = absurd (omega arith)
 together-only (suc n) a z h =
     ⊎-elim
     (λ (s : a ≡ n).
-        let e = together-none n a z (omega arith) in
-        let o = only-same a n z s in
-        omega (arith, ints))
+    let e = together-none n a z (omega arith) in
+    let o = only-same a n z s in
+    omega (arith, ints))
     (λ (d : a ≡ n → ⊥).
-        let e = together-only n a z (omega arith) in
-        let o = only-other a n z d in
-        omega (arith, ints))
+    let e = together-only n a z (omega arith) in
+    let o = only-other a n z d in
+    omega (arith, ints))
     (cases-eq a n)
 
 -- a transfer between two of the accounts leaves their sum

@@ -10,6 +10,9 @@ use Rattle.terms.specs.Ranges.{between, accounts, transfer-max}
 use Rattle.book.specs.declared.entry.Entry.{Entry}
 use Rattle.book.specs.Meaning.{Meaning, shift}
 
+abbrev pub entry : ℕ → ℕ → ℕ → Entry
+entry payer payee amount = record { payer = payer; payee = payee; amount = amount }
+
 -- a lawful entry
 pub record Proper (e : Entry) : Type 0 where
   pub payer : e .payer < accounts

@@ -4,8 +4,11 @@ ghost use Rattle.std.specs.Results.{isErr};
 ghost use Rattle.terms.specs.Refusals.{answer};
 ghost use Rattle.book.specs.Deposits.{deposit-refusal, deposited};
 use crate::book::Book;
-use terms::ranges::{BANK, PAYMENT_MAX, PROPRIETARY, SEN_PER_YEN};
 use terms::Refusal;
+use terms::ranges::BANK;
+use terms::ranges::PAYMENT_MAX;
+use terms::ranges::PROPRIETARY;
+use terms::ranges::SEN_PER_YEN;
 
 // A deposit, over any book: 100 sen a yen from the bank to the account.
 pub fn move_deposit<B: Book>(book: &mut B, account: u8, yen: u64) -> Result<(), Refusal>

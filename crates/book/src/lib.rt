@@ -11,3 +11,6 @@ pub use book::Book;
 pub use entry::Entry;
 pub use journal::JournalBook;
 pub use running::RunningBook;
+
+#[cfg(test)]
+mod tests;

@@ -19,8 +19,8 @@ module _ {T : Type 0} (S : List T) (i k : ℕ) where
       let p = paste S i (drop (suc i) S) k in
       let j : suc i + k ≡ i + k + 1 = omega arith in
       let read : getD p (i + k + 1) z ≡ getD (drop (suc i) S) k z =
-          sym (getD-drop (i + k) p 1 z) ∙ ap (λ (l : List T). getD l 1 z) (drop-paste S i (drop (suc i) S) k a b′)
-          ∙ getD-drop (i + k) S 1 z ∙ ap (λ m. getD S m z) (sym j) ∙ sym (getD-drop (suc i) S k z) in
+      sym (getD-drop (i + k) p 1 z) ∙ ap (λ (l : List T). getD l 1 z) (drop-paste S i (drop (suc i) S) k a b′)
+      ∙ getD-drop (i + k) S 1 z ∙ ap (λ m. getD S m z) (sym j) ∙ sym (getD-drop (suc i) S k z) in
       ap (λ (l : List T). set l (i + k) (getD l (i + k + 1) z)) e ∙ ap (set p (i + k)) read ∙ paste-more S i (drop (suc i) S) k z d b
 
   -- the list where the loop has ended, of which n places were in use

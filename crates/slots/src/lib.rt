@@ -3,3 +3,6 @@ pub mod list;
 mod methods;
 
 pub use list::List;
+
+#[cfg(test)]
+mod tests;

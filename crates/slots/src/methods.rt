@@ -17,7 +17,11 @@ impl<'a, T: Copy> List<'a, T> {
         ensures free { λ r. ⌜ free r ≡ now (slots .entry) ⌝ }
         ensures capacity { λ r. ⌜ capacity r ≡ min limit (length (now (slots .entry))) ⌝ }
     {
-        List { slots, limit, len: 0 }
+        List {
+            slots,
+            limit,
+            len: 0,
+        }
     }
 
     // How many records the list can hold.

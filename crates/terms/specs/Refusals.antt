@@ -37,7 +37,6 @@ pub record Sentence : Type 0 where
   pub refuses : Refusal
 
 infix 70 _gives_
-
 abbrev pub _gives_ : Bool → Refusal → Sentence
 _gives_ b e = record { applies = b; refuses = e }
 

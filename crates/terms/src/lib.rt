@@ -9,3 +9,6 @@ pub use outcome::Outcome;
 pub use refusal::Refusal;
 pub use settings::Settings;
 pub use side::Side;
+
+#[cfg(test)]
+mod tests;

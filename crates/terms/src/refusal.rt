@@ -58,26 +58,35 @@ impl Refusal {
 
     fn words(self) -> &'static str {
         match self {
-            Refusal::TimeOutOfRange => "the time lies before the ledger's time or after its last second, 94,694,399",
+            Refusal::TimeOutOfRange =>
+                "the time lies before the ledger's time or after its last second, 94,694,399",
             Refusal::AccountOutOfRange => "the account is outside 2 to 255",
             Refusal::CodeOutOfRange => "the side or outcome is neither 0 nor 1",
             Refusal::PriceOutOfRange => "the price is outside 1 to 100,000,000 yen",
-            Refusal::QuantityOutOfRange => "the quantity is outside 1 to 10,000 units in an order, or 1 to 50,000 in a fill",
-            Refusal::PaymentOutOfRange => "the deposit or withdrawal is outside 1 to 10,000,000,000 yen",
+            Refusal::QuantityOutOfRange =>
+                "the quantity is outside 1 to 10,000 units in an order, or 1 to 50,000 in a fill",
+            Refusal::PaymentOutOfRange =>
+                "the deposit or withdrawal is outside 1 to 10,000,000,000 yen",
             Refusal::NoSpotPrice => "no spot price has come yet",
-            Refusal::OrderNotHeld => "no such order is held, or it is a cut order, which cannot be cancelled",
+            Refusal::OrderNotHeld =>
+                "no such order is held, or it is a cut order, which cannot be cancelled",
             Refusal::OrdersDoNotMatch => "the orders are not a buy and a sell of two accounts",
             Refusal::FillExceedsOrder => "the fill is larger than what remains of an order",
-            Refusal::FillOutsideLimit => "the price is above the buy order's limit or below the sell order's",
-            Refusal::WrongHaltState => "trading is halted, or there is no halt to end, or its 300 seconds are not over",
+            Refusal::FillOutsideLimit =>
+                "the price is above the buy order's limit or below the sell order's",
+            Refusal::WrongHaltState =>
+                "trading is halted, or there is no halt to end, or its 300 seconds are not over",
             Refusal::WrongAccountState => "the account's state does not allow the call",
-            Refusal::PositionTooLarge => "position and orders of that side would exceed 50,000 units",
+            Refusal::PositionTooLarge =>
+                "position and orders of that side would exceed 50,000 units",
             Refusal::MarginTooSmall => "the account's equity or balance does not cover it",
             Refusal::NoSlotLeft => "no slot or order number is left",
             Refusal::NoEntryLeft => "the book has too few entries left",
-            Refusal::TicketNotInHand => "the account is not cut in hand under the ticket's order number",
+            Refusal::TicketNotInHand =>
+                "the account is not cut in hand under the ticket's order number",
             Refusal::SettingOutOfRange => "a setting is outside its range",
-            Refusal::TransferUnlawful => "payer and payee are one account, or the amount is outside 1 to 80,000,000,000,000 sen",
+            Refusal::TransferUnlawful =>
+                "payer and payee are one account, or the amount is outside 1 to 80,000,000,000,000 sen",
         }
     }
 }

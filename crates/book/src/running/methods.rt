@@ -8,8 +8,9 @@ ghost use Rattle.book.specs.Running.{running-meaning};
 use crate::admission::admit;
 use crate::book::Book;
 use crate::running::RunningBook;
-use terms::ranges::{ACCOUNTS, ENTRIES_MAX};
 use terms::Refusal;
+use terms::ranges::ACCOUNTS;
+use terms::ranges::ENTRIES_MAX;
 
 // Adds `z` to one balance.
 fn add(balances: &mut [i64; 256], account: u8, z: i64)
@@ -26,7 +27,11 @@ impl RunningBook {
     pub fn new(entries: usize) -> RunningBook
         ensures { λ r. ⌜ running-meaning r ≡ fresh (min entries 65536) ⌝ }
     {
-        RunningBook { balances: [0; ACCOUNTS], made: 0, left: entries.min(ENTRIES_MAX as usize) as u32 }
+        RunningBook {
+            balances: [0; ACCOUNTS],
+            made: 0,
+            left: entries.min(ENTRIES_MAX as usize) as u32,
+        }
     }
 }
 

@@ -25,7 +25,7 @@ more m k old z x y h l ex ey sum small value =
     let size : natAbs (old +ℤ z) ≤ (80000000000000 * 65536) * (k + 1) = omega (arith, natAbs-add old z, ap natAbs value) in
     let v = summed w128 old z x y ex ey (omega arith) in
     let told : old +ℤ z ≡ together (k + 1) (λ a. m .balance (suc a)) =
-        rw add-one (ap (λ (u : ℤ). u +ℤ z) sum ∙ ap (λ (u : ℤ). together k (λ a. m .balance (suc a)) +ℤ u) (value ∙ ap (m .balance) (add-one k))) in
+    rw add-one (ap (λ (u : ℤ). u +ℤ z) sum ∙ ap (λ (u : ℤ). together k (λ a. m .balance (suc a)) +ℤ u) (value ∙ ap (m .balance) (add-one k))) in
     (v ∙ told, rw v size)
 
 pub loop-k-holds : need.loop-k-holds

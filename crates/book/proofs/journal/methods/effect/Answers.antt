@@ -13,18 +13,20 @@ returns-then-e-account c =
     let e = c .args .e in
     let small : e .amount < 2 ^ 63 = omega (arith, c .pre .small) in
     let v = toZ-pos w64 (e .amount) small in
-    record
-    { value = v ∙ sym (shift-payee (e .payer) (e .payee) (e .amount) (c .args .account) (c .pre .apart) (c .if-e-account .taken))
-    ; bound = rw v (c .pre .small) }
+    record {
+      value = v ∙ sym (shift-payee (e .payer) (e .payee) (e .amount) (c .args .account) (c .pre .apart) (c .if-e-account .taken));
+      bound = rw v (c .pre .small);
+    }
 
 pub returns-then-e-account-2 : need.returns-then-e-account-2
 returns-then-e-account-2 c =
     let e = c .args .e in
     let small : e .amount < 2 ^ 63 = omega (arith, c .pre .small) in
     let v = negated w64 (e .amount) small in
-    record
-    { value = v ∙ sym (shift-payer (e .payer) (e .payee) (e .amount) (c .args .account) (c .if-e-account .left) (c .if-e-account-2 .taken))
-    ; bound = rw (v, natAbs-neg (pos (e .amount))) (c .pre .small) }
+    record {
+      value = v ∙ sym (shift-payer (e .payer) (e .payee) (e .amount) (c .args .account) (c .if-e-account .left) (c .if-e-account-2 .taken));
+      bound = rw (v, natAbs-neg (pos (e .amount))) (c .pre .small);
+    }
 
 pub returns-else-e-account-2 : need.returns-else-e-account-2
 returns-else-e-account-2 c =

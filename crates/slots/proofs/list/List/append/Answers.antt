@@ -21,9 +21,10 @@ returns g c =
     let h : n < n + 1 = omega arith in
     let room = ap (min (l .limit)) (length-set s n (c .args .x)) in
     let more : min (n + 1) (min (l .limit) (length S)) ≡ n + 1 = rw room (omega arith) in
-    record
-    { value = cond-below (length (items l)) (capacity l) _ _ below
-    ; items = ap (λ (k : ℕ). take k S) more ∙ take-more-set _ _ _ inside ∙ ap (λ (k : ℕ). take k s ++ c .args .x ∷ []) at
-    ; free = ap (λ (k : ℕ). drop k S) more ∙ drop-set-lt _ _ _ _ h ∙ sym (drop-drop 1 n s) ∙ ap (λ (k : ℕ). drop 1 (drop k s)) at
-    ; capacity = room
-    ; same = λ e. absurd (false≢true e) }
+    record {
+      value = cond-below (length (items l)) (capacity l) _ _ below;
+      items = ap (λ (k : ℕ). take k S) more ∙ take-more-set _ _ _ inside ∙ ap (λ (k : ℕ). take k s ++ c .args .x ∷ []) at;
+      free = ap (λ (k : ℕ). drop k S) more ∙ drop-set-lt _ _ _ _ h ∙ sym (drop-drop 1 n s) ∙ ap (λ (k : ℕ). drop 1 (drop k s)) at;
+      capacity = room;
+      same = λ e. absurd (false≢true e);
+    }

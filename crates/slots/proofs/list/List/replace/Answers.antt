@@ -16,8 +16,9 @@ returns g c =
     let h : i < used l = omega (arith, length-items l, c .pre) in
     let room = ap (min (l .limit)) (length-set (l .slots .now) i (c .args .x)) in
     let n = ap (min (l .len)) room in
-    record
-    { value = c .get-old .ensures
-    ; items = ap (λ (k : ℕ). take k S) n ∙ take-set-lt _ _ _ _ h
-    ; free = ap (λ (k : ℕ). drop k S) n ∙ drop-set-lt _ _ _ _ h
-    ; capacity = room }
+    record {
+      value = c .get-old .ensures;
+      items = ap (λ (k : ℕ). take k S) n ∙ take-set-lt _ _ _ _ h;
+      free = ap (λ (k : ℕ). drop k S) n ∙ drop-set-lt _ _ _ _ h;
+      capacity = room;
+    }

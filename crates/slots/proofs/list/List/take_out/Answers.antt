@@ -34,8 +34,9 @@ returns g c =
     let inside : used l ≤ length s = omega arith in
     let room : min (c .loop-k .self .limit) (length S) ≡ min (l .limit) (length s) = rw (inv .0, inv .4) refl in
     let fewer : min last (min (c .loop-k .self .limit) (length S)) ≡ i + k = rw room (omega arith) in
-    record
-    { value = c .get-old .ensures
-    ; items = ap (λ (n : ℕ). take n S) fewer ∙ shift-items s i k S (inv .3) (used l) all inside
-    ; free = ap (λ (n : ℕ). drop 1 (drop n S)) fewer ∙ shift-free s i k S (inv .3) (used l) all inside
-    ; capacity = room }
+    record {
+      value = c .get-old .ensures;
+      items = ap (λ (n : ℕ). take n S) fewer ∙ shift-items s i k S (inv .3) (used l) all inside;
+      free = ap (λ (n : ℕ). drop 1 (drop n S)) fewer ∙ shift-free s i k S (inv .3) (used l) all inside;
+      capacity = room;
+    }

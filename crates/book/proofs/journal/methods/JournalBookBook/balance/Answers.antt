@@ -40,8 +40,8 @@ loop-i-again c =
     let near : natAbs (old +ℤ z) ≤ 80000000000000 * (i + 1) = omega (arith, natAbs-add old z, c .loop-i .inv .1, ap natAbs is, c .effect-sum .ensures .bound) in
     let sum = summed w64 old z _ _ is (back w64 z (omega (arith, c .effect-sum .ensures .bound))) (omega arith) in
     let told : old +ℤ z ≡ posted (take (i + 1) es) (c .args .account) =
-        ap (λ (y : ℤ). y +ℤ z) (sym is ∙ c .loop-i .inv .0) ∙ ap (λ (y : ℤ). posted (take i es) (c .args .account) +ℤ y) (c .effect-sum .ensures .value)
-        ∙ sym (posted-more es i e (c .args .account) h (c .get .ensures)) in
+    ap (λ (y : ℤ). y +ℤ z) (sym is ∙ c .loop-i .inv .0) ∙ ap (λ (y : ℤ). posted (take i es) (c .args .account) +ℤ y) (c .effect-sum .ensures .value)
+    ∙ sym (posted-more es i e (c .args .account) h (c .get .ensures)) in
     (sum ∙ told, rw sum near)
 
 pub returns : need.returns
@@ -49,6 +49,7 @@ returns c =
     let b = c .args .self .now in
     let es = items (b .entries) in
     let h : length es ≤ c .loop-i .i = omega (arith, c .len-i-end .ensures) in
-    record
-    { value = c .loop-i .inv .0 ∙ ap (λ (l : List Entry). posted l (c .args .account)) (take-all (c .loop-i .i) es h)
-    ; lawful = lawful-journal b }
+    record {
+      value = c .loop-i .inv .0 ∙ ap (λ (l : List Entry). posted l (c .args .account)) (take-all (c .loop-i .i) es h);
+      lawful = lawful-journal b;
+    }

@@ -55,8 +55,9 @@ returns c =
     let ok = sym (c .admit .ensures) ∙ c .in-Continue-admit .was tt in
     let a = admitted (b .left) p q n ok in
     let m = means (b .balances) (c .add .last .balances) (c .add-2 .last .balances) (b .made) (b .left) p q n a len hp hq (c .add .ensures) (c .add-2 .ensures) in
-    record
-    { answers = sym ok
-    ; leaves = m ∙ sym (transferred-taken (running-meaning b) p q n ok)
-    ; same = λ e. absurd (false≢true e)
-    ; lawful = rw m (lawful-entered (running-meaning b) p q n (lawful-running b) hp hq a) }
+    record {
+      answers = sym ok;
+      leaves = m ∙ sym (transferred-taken (running-meaning b) p q n ok);
+      same = λ e. absurd (false≢true e);
+      lawful = rw m (lawful-entered (running-meaning b) p q n (lawful-running b) hp hq a);
+    }
