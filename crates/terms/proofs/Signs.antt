@@ -19,6 +19,10 @@ natAbs-neg (pos zero) = refl
 natAbs-neg (pos (suc n)) = refl
 natAbs-neg (negsuc n) = refl
 
+pub natAbs-mul : (n : ℕ) (z : ℤ) → natAbs (pos n *ℤ z) ≡ n * natAbs z
+natAbs-mul n (pos m) = refl
+natAbs-mul n (negsuc m) = natAbs-neg (pos (n * suc m))
+
 -- a number whose size is known fits its width, and comes back from its bits
 pub sfits-by : (w : Width) (z : ℤ) → natAbs z < 2 ^ hbits w → SFits w z
 sfits-by w (pos n) h = record { sfits = h }

@@ -1,5 +1,5 @@
 -- Sides and outcomes, and the bytes that stand for them.
-use mathlib.Core.Bool.{cond}
+use mathlib.Core.Bool.{Bool, true, false, cond}
 use Prim.Native.Nat.{ℕ}
 use lib.Dec.{eqb}
 use Rattle.std.specs.declared.result.Result.{Result}
@@ -14,6 +14,12 @@ use Rattle.terms.specs.declared.outcome.Outcome.the-variants.{HandedBack, Sent
 -- what the bytes 0 and 1 stand for; any other is refused
 abbrev pub coded : {X : Type 0} → X → X → ℕ → Result X Refusal
 coded x y b = cond (eqb b 0) (Ok x) (cond (eqb b 1) (Ok y) (Err CodeOutOfRange))
+
+abbrev pub same-side : Side → Side → Bool
+same-side Buy Buy = true
+same-side Buy Sell = false
+same-side Sell Buy = false
+same-side Sell Sell = true
 
 abbrev pub sideByte : Side → ℕ
 sideByte Buy = 0

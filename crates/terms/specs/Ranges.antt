@@ -13,6 +13,17 @@ accounts = 256
 abbrev pub bank : ℕ
 bank = 0
 
+-- the last second of day 1,096
+abbrev pub last-time : ℕ
+last-time = 94694399
+
+abbrev pub price-max : ℕ
+price-max = 100000000
+
+-- the most that an account may hold and have ordered on one side
+abbrev pub position-max : ℕ
+position-max = 50000
+
 -- yen of one deposit or withdrawal
 abbrev pub payment-max : ℕ
 payment-max = 10000000000

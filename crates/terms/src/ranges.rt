@@ -13,6 +13,8 @@ pub const PROPRIETARY: u8 = 2;
 
 pub const ACCOUNTS: usize = 256;
 
+// Seconds of a day.
+pub const DAY_LENGTH: u32 = 86_400;
 // The last second of day 1,096.
 pub const LAST_TIME: u32 = 94_694_399;
 

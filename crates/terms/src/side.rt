@@ -1,5 +1,5 @@
 ghost use mathlib.Core.Path.{_≡_};
-ghost use Rattle.terms.specs.Codes.{sideByte, sideRead};
+ghost use Rattle.terms.specs.Codes.{same-side, sideByte, sideRead};
 use crate::refusal::Refusal;
 
 // Of an order, to buy or to sell; of a lot, long where it was bought and short where it was sold.
@@ -17,6 +17,16 @@ impl Side {
             0 => Ok(Side::Buy),
             1 => Ok(Side::Sell),
             _ => Err(Refusal::CodeOutOfRange),
+        }
+    }
+
+    // Whether both are the same side.
+    pub fn is(self, other: Side) -> bool
+        ensures { λ r. ⌜ r ≡ same-side self other ⌝ }
+    {
+        match (self, other) {
+            (Side::Buy, Side::Buy) | (Side::Sell, Side::Sell) => true,
+            _ => false,
         }
     }
 
