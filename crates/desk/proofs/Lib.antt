@@ -1,0 +1,5 @@
+pub mod Scanning
+pub mod Cuts
+pub mod Parsing
+pub mod Words
+pub mod Numerals
