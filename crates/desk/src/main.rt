@@ -22,18 +22,25 @@ mod unreadable;
 mod verb;
 
 fn main(rt: LibcRuntime) -> io::Result<()> {
-    let mut args = env::args(&rt)?;
+    match script_name(&rt) {
+        Ok(Some(name)) => run_file(&rt, name.as_str()),
+        Ok(None) => reported(&rt, "standard input", run(&rt, BufReader::new(rt.stdin()))),
+        Err(e) => {
+            eprintln!(rt, "desk: {e}")?;
+            Err(e)
+        }
+    }
+}
+
+// The script's file, where one is named.
+fn script_name(rt: &LibcRuntime) -> io::Result<Option<String>> {
+    let mut args = env::args(rt)?;
     let _ = args.next();
-    let file = args.next();
+    let name = args.next();
     if args.next().is_some() {
-        let wrong = io::Error::other("takes one argument at most, the file of the script");
-        eprintln!(rt, "desk: {wrong}")?;
-        return Err(wrong);
+        return Err(io::Error::other("at most one argument is taken, the file of the script"));
     }
-    match file {
-        Some(name) => run_file(&rt, name.as_str()),
-        None => reported(&rt, "standard input", run(&rt, BufReader::new(rt.stdin()))),
-    }
+    Ok(name)
 }
 
 fn run_file(rt: &LibcRuntime, name: &str) -> io::Result<()> {

@@ -2,7 +2,7 @@ ghost use mathlib.Core.Path.{_≡_};
 ghost use mathlib.Core.Bool.{true, cond};
 ghost use mathlib.Core.List.{_++_, _∷_, []};
 ghost use Prim.Native.Nat.{ℕ, _+_, _-_, _<_, min};
-ghost use lib.ListN.{length, getD, set, drop};
+ghost use lib.ListN.{length, getD, set, take, drop};
 ghost use lib.Dec.{ltb};
 ghost use Rattle.std.specs.Holes.{removed};
 ghost use Rattle.std.specs.Results.{isOk, isErr};
@@ -98,5 +98,15 @@ impl<'a, T: Copy> List<'a, T> {
         }
         self.len = last;
         old
+    }
+
+    // Keeps the first `n` records, where there are more.
+    pub fn truncate(&mut self, n: usize)
+        ensures items { λ _. ⌜ items (now (self .exit)) ≡ take n (items (now (self .entry))) ⌝ }
+        ensures free { λ _. ⌜ drop (length (items (now (self .entry))) - length (items (now (self .exit)))) (free (now (self .exit))) ≡ free (now (self .entry)) ⌝ }
+        ensures capacity { λ _. ⌜ capacity (now (self .exit)) ≡ capacity (now (self .entry)) ⌝ }
+    {
+        let count = n.min(self.len());
+        self.len = count;
     }
 }

@@ -37,3 +37,19 @@ fn limit_nought() -> Result<(), Fail> {
     check_eq(list.append(1), Err(1))?;
     check_eq(slots, [7, 7])
 }
+
+#[test]
+fn keeps_the_first_records() -> Result<(), Fail> {
+    let mut slots = [0u32; 4];
+    let mut list = List::new(&mut slots, 4);
+    for x in [10, 20, 30] {
+        check_eq(list.append(x), Ok(()))?;
+    }
+    list.truncate(9);
+    check_eq(list.len(), 3).note("more than there are")?;
+    list.truncate(2);
+    check(list.len() == 2)?;
+    check_eq(list.get(1), 20)?;
+    list.truncate(0);
+    check_eq(list.len(), 0)
+}

@@ -1,9 +1,23 @@
 use crate::bands::is_outside;
-use crate::calendar::{day, next_due};
-use crate::charges::{funding, funding_difference, paid, points, received};
-use crate::closing::{settlement, split_charge};
-use crate::margins::{is_at_cut_level, is_short_of, requirement, shortfall};
-use crate::moments::{Due, DueDebug, DuePartialEq, Moment, MomentDebug, MomentPartialEq};
+use crate::calendar::day;
+use crate::calendar::next_due;
+use crate::charges::funding;
+use crate::charges::funding_difference;
+use crate::charges::paid;
+use crate::charges::points;
+use crate::charges::received;
+use crate::closing::settlement;
+use crate::closing::split_charge;
+use crate::margins::is_at_cut_level;
+use crate::margins::is_short_of;
+use crate::margins::requirement;
+use crate::margins::shortfall;
+use crate::moments::Due;
+use crate::moments::DueDebug;
+use crate::moments::DuePartialEq;
+use crate::moments::Moment;
+use crate::moments::MomentDebug;
+use crate::moments::MomentPartialEq;
 use crate::outcome::Outcome;
 use crate::outcome::OutcomeDebug;
 use crate::outcome::OutcomePartialEq;
@@ -127,9 +141,18 @@ fn splits_and_settlements() -> Result<(), Fail> {
     check_eq(split_charge(10, 1, 3), (3, 7))?;
     check_eq(split_charge(-10, 1, 3), (-3, -7))?;
     check_eq(split_charge(-10, 3, 3), (-10, 0))?;
-    check_eq(split_charge(i64::MIN, 4_294_967_295, 4_294_967_295), (i64::MIN, 0))?;
-    check_eq(settlement(Side::Buy, 10_000_000, 10_250_000, 100, 4_000), 24_600_000)?;
-    check_eq(settlement(Side::Sell, 10_000_000, 10_250_000, 100, 4_000), -25_400_000)
+    check_eq(
+        split_charge(i64::MIN, 4_294_967_295, 4_294_967_295),
+        (i64::MIN, 0),
+    )?;
+    check_eq(
+        settlement(Side::Buy, 10_000_000, 10_250_000, 100, 4_000),
+        24_600_000,
+    )?;
+    check_eq(
+        settlement(Side::Sell, 10_000_000, 10_250_000, 100, 4_000),
+        -25_400_000,
+    )
 }
 
 #[test]

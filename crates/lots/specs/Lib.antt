@@ -1,0 +1,2 @@
+pub mod Lots
+pub mod Worth
