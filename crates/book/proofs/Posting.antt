@@ -7,9 +7,9 @@ use Prim.Native.Nat.{ℕ, zero, suc, _+_, _*_, _-_, _≤_, _<_}
 use native.Mathlib.Omega.{arith}
 use lib.IntN.{ℤ, pos, negℤ, natAbs, _+ℤ_}
 use lib.ListN.{length, getD, take, replicate}
-use Rattle.std.proofs.shelf.Lists.{getD-set-same, getD-set-other, length-set, length-push, take-more}
+use Rattle.std.proofs.shelf.Lists.{length-set, length-push, take-more}
 use Rattle.std.proofs.shelf.Signed.{ints}
-use Rattle.std.proofs.shelf.Tests.{cases-eq, and-parts, and-from}
+use Rattle.std.proofs.shelf.Tests.{cases-eq, eq-eqb, ne-eqb, and-parts}
 use Rattle.std.proofs.shelf.Ways.{tells}
 use Rattle.std.specs.declared.option.Option.the-variants.{None}
 use Rattle.std.specs.declared.result.Result.the-variants.{Ok}
@@ -17,7 +17,9 @@ use Rattle.terms.specs.Refusals.{answer}
 use Rattle.terms.proofs.Refused.{taken, unless-none}
 use Rattle.terms.proofs.Signs.{natAbs-add}
 use Rattle.slots.specs.Items.{items, capacity}
+use Rattle.slots.specs.Every.{every}
 use Rattle.slots.proofs.Items.{items-fit}
+use Rattle.slots.proofs.Places.{set-at}
 use Rattle.book.specs.declared.entry.Entry.{Entry}
 use Rattle.book.specs.declared.journal.JournalBook.{JournalBook}
 use Rattle.book.specs.declared.running.RunningBook.{RunningBook}
@@ -26,18 +28,16 @@ use Rattle.book.specs.Running.{running-meaning}
 use Rattle.book.specs.Meaning.{Meaning, Lawful, fresh, together, only, shift, entered, transfer-refusal, transferred}
 use Rattle.book.specs.Balances.{added, kept}
 use Rattle.book.specs.Entries.{Proper, proper-entry, proper, posted, journaled}
-use Rattle.book.proofs.Sums.{only-same, only-other, only-neg, shift-small, together-nil, together-add, together-shift}
+use Rattle.book.proofs.Sums.{only-neg, shift-small, together-nil, together-add, together-shift}
 
 -- a balance, after z was added to that of account a
 pub added-at : (bs : List ℤ) (a k : ℕ) (z : ℤ) → a < length bs → getD (added bs a z) k (pos 0) ≡ getD bs k (pos 0) +ℤ only a z k
+unfolding only
 added-at bs a k z h =
+    let e = set-at bs a k (getD bs a (pos 0) +ℤ z) (pos 0) h in
     ⊎-elim
-    (λ (s : a ≡ k).
-    ap (λ (n : ℕ). getD (added bs a z) n (pos 0)) (sym s) ∙ getD-set-same bs a (getD bs a (pos 0) +ℤ z) (pos 0) h
-    ∙ ap (λ (n : ℕ). getD bs n (pos 0) +ℤ z) s ∙ ap (λ (y : ℤ). getD bs k (pos 0) +ℤ y) (sym (only-same a k z s)))
-    (λ (d : a ≡ k → ⊥).
-    let o = only-other a k z d in
-    getD-set-other bs a k (getD bs a (pos 0) +ℤ z) (pos 0) (λ e. d (sym e)) ∙ omega (arith, ints))
+    (λ (s : a ≡ k). e ∙ rw (eq-eqb a k s, s))
+    (λ (d : a ≡ k → ⊥). e ∙ rw (ne-eqb a k d) (omega (arith, ints)))
     (cases-eq a k)
 
 -- the payer's balance lowered, then the payee's raised
@@ -102,19 +102,6 @@ proper-test e h =
 pub proper-fact : (e : Entry) → proper-entry e ≡ true → Proper e
 proper-fact e h = record { payer = grind (arith, tells); payee = grind (arith, tells); apart = grind (arith, tells); some = grind (arith, tells); small = grind (arith, tells) }
 
-pub proper-at : (es : List Entry) (i : ℕ) (d : Entry) → i < length es → proper es ≡ true → proper-entry (getD es i d) ≡ true
-unfolding proper
-proper-at [] i d l h = absurd (omega arith)
-proper-at (e ∷ es) zero d l h = and-parts (proper-entry e) (proper es) h .0
-proper-at (e ∷ es) (suc i) d l h = proper-at es i d (omega arith) (and-parts (proper-entry e) (proper es) h .1)
-
-pub proper-push : (es : List Entry) (e : Entry) → proper es ≡ true → proper-entry e ≡ true → proper (es ++ e ∷ []) ≡ true
-unfolding proper
-proper-push [] e h one = and-from (proper-entry e) true one refl
-proper-push (x ∷ es) e h one =
-    let parts = and-parts (proper-entry x) (proper es) h in
-    and-from (proper-entry x) (proper (es ++ e ∷ [])) (parts .0) (proper-push es e (parts .1) one)
-
 pub posted-push : (es : List Entry) (e : Entry) (k : ℕ) → posted (es ++ e ∷ []) k ≡ posted es k +ℤ shift (e .payer) (e .payee) (e .amount) k
 unfolding posted
 posted-push [] e k = omega (arith, ints)
@@ -126,7 +113,7 @@ posted-more es i e k l h =
 
 -- what proper entries add up to
 pub posted-near : (es : List Entry) (k : ℕ) → proper es ≡ true → natAbs (posted es k) ≤ 80000000000000 * length es
-unfolding proper posted
+unfolding every posted
 posted-near [] k h = omega arith
 posted-near (e ∷ es) k h =
     let parts = and-parts (proper-entry e) (proper es) h in
@@ -136,7 +123,7 @@ posted-near (e ∷ es) k h =
     omega (arith, p .small, natAbs-add (shift (e .payer) (e .payee) (e .amount) k) (posted es k))
 
 pub posted-even : (es : List Entry) → proper es ≡ true → together 256 (posted es) ≡ pos 0
-unfolding proper posted
+unfolding every posted
 posted-even [] h = together-nil 256
 posted-even (e ∷ es) h =
     let parts = and-parts (proper-entry e) (proper es) h in

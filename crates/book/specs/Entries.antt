@@ -1,11 +1,12 @@
 -- Entries, and the balances to which they add up.
 use mathlib.Core.Path.{_≡_}
-use mathlib.Core.Bool.{Bool, true, not, _&&_}
+use mathlib.Core.Bool.{Bool, not, _&&_}
 use mathlib.Core.List.{List, [], _∷_}
 use Prim.Native.Nat.{ℕ, _-_, _≤_, _<_}
 use lib.Dec.{eqb, ltb}
 use lib.ListN.{length}
 use lib.IntN.{ℤ, pos, _+ℤ_}
+use Rattle.slots.specs.Every.{every}
 use Rattle.terms.specs.Ranges.{between, accounts, transfer-max}
 use Rattle.book.specs.declared.entry.Entry.{Entry}
 use Rattle.book.specs.Meaning.{Meaning, shift}
@@ -25,9 +26,8 @@ pub record Proper (e : Entry) : Type 0 where
 abbrev pub proper-entry : Entry → Bool
 proper-entry e = (ltb (e .payer) accounts && ltb (e .payee) accounts) && (not (eqb (e .payer) (e .payee)) && between 1 transfer-max (e .amount))
 
-unfoldable pub proper : List Entry → Bool
-proper [] = true
-proper (e ∷ es) = proper-entry e && proper es
+abbrev pub proper : List Entry → Bool
+proper = every proper-entry
 
 -- what the entries make of the balance of account k
 unfoldable pub posted : List Entry → ℕ → ℤ

@@ -2,19 +2,17 @@
 use mathlib.Core.Path.{_≡_, refl, sym, ap, _∙_}
 use mathlib.Core.Bool.{cond}
 use mathlib.Core.List.{List, [], _∷_, _++_}
-use mathlib.Core.Logic.{⊎-elim}
-use Prim.Native.Nat.{ℕ, _+_, _*_, _≤_, _<_}
+use Prim.Native.Nat.{ℕ, _+_, _<_}
 use native.Mathlib.Omega.{arith}
 use lib.Dec.{eqb}
-use lib.IntN.{ℤ, pos, natAbs, _+ℤ_}
-use lib.ListN.{length, take, getD, set}
-use Rattle.std.proofs.shelf.Lists.{take-more, getD-set-same, getD-set-other}
+use lib.IntN.{ℤ, pos, _+ℤ_}
+use lib.ListN.{length, take, getD}
+use Rattle.std.proofs.shelf.Lists.{take-more}
 use Rattle.std.proofs.shelf.Signed.{ints}
-use Rattle.std.proofs.shelf.Tests.{cases-eq, eq-eqb, ne-eqb, cond-true, cond-false}
+use Rattle.std.proofs.shelf.Tests.{eq-eqb, ne-eqb, cond-true, cond-false}
 use Rattle.terms.specs.declared.lot.Lot.{Lot}
-use Rattle.terms.proofs.Signs.{natAbs-add}
 use Rattle.lots.specs.declared.holding.Holding.{Holding}
-use Rattle.lots.specs.Worth.{worth, worth-of, units-of, holding-of, no-holding, Plus}
+use Rattle.lots.specs.Worth.{worth, worth-of, units-of, holding-of, Plus}
 
 worth-push : (a : ℕ) (m : ℤ) (ls : List Lot) (l : Lot) → worth-of a m (ls ++ l ∷ []) ≡ worth-of a m ls +ℤ cond (eqb (l .account) a) (worth m l) (pos 0)
 unfolding worth-of
@@ -52,11 +50,3 @@ module _ (m : ℤ) (ls : List Lot) (i : ℕ) (l : Lot) (h : i < length ls) (e : 
       let u : units-of a (take (i + 1) ls) ≡ units-of a (take i ls) =
       ap (units-of a) front ∙ units-push a (take i ls) l ∙ ap (λ (n : ℕ). units-of a (take i ls) + n) (cond-false (eqb (l .account) a) (l .quantity) 0 t) ∙ omega arith in
       rw (w, u)
-
--- a write at one place of the sums, for each account
-module _ (sums : List Holding) (k : ℕ) (new : Holding) (inside : k < length sums) where
-  pub at-own : (a : ℕ) → k ≡ a → getD (set sums k new) a no-holding ≡ new
-  at-own a s = ap (λ (n : ℕ). getD (set sums k new) n no-holding) (sym s) ∙ getD-set-same sums k new no-holding inside
-
-  pub at-other : (a : ℕ) → (k ≡ a → ⊥) → getD (set sums k new) a no-holding ≡ getD sums a no-holding
-  at-other a d = getD-set-other sums k a new no-holding (λ e. d (sym e))

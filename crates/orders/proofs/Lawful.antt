@@ -1,17 +1,14 @@
--- Lawful orders: what the test of one says, and of a list; and how large a margin can be.
+-- What the test of a lawful order says, and how large its margin can be.
 use mathlib.Core.Path.{_≡_}
 use mathlib.Core.Bool.{true}
-use mathlib.Core.List.{List, [], _∷_}
-use Prim.Native.Nat.{ℕ, zero, suc, _*_, _≤_, _<_}
+use Prim.Native.Nat.{ℕ, _*_, _≤_}
 use native.Mathlib.Omega.{arith}
-use lib.ListN.{length, getD}
 use Rattle.std.proofs.shelf.Bits.{mul-le}
-use Rattle.std.proofs.shelf.Tests.{and-parts}
 use Rattle.std.proofs.shelf.Ways.{tells}
 use Rattle.terms.specs.Margins.{requirement}
 use Rattle.terms.proofs.Divisions.{ceiling-at-most}
 use Rattle.orders.specs.declared.order.Order.{Order}
-use Rattle.orders.specs.Orders.{lawful-order, lawful-orders}
+use Rattle.orders.specs.Orders.{lawful-order}
 
 pub record Lawful (o : Order) : Type 0 where
   pub owner : (2 ≤ o .account) × (o .account ≤ 255)
@@ -21,16 +18,6 @@ pub record Lawful (o : Order) : Type 0 where
 
 pub lawful : (o : Order) → lawful-order o ≡ true → Lawful o
 lawful o h = record { owner = (grind (arith, tells), grind (arith, tells)); priced = grind (arith, tells); some = grind (arith, tells); few = grind (arith, tells) }
-
-pub lawful-at : (os : List Order) (i : ℕ) (d : Order) → i < length os → lawful-orders os ≡ true → lawful-order (getD os i d) ≡ true
-unfolding lawful-orders
-lawful-at [] i d h s = absurd (omega arith)
-lawful-at (o ∷ os) zero d h s = and-parts (lawful-order o) (lawful-orders os) s .0
-lawful-at (o ∷ os) (suc i) d h s = lawful-at os i d (omega arith) (and-parts (lawful-order o) (lawful-orders os) s .1)
-
--- the order that was read
-pub read : (os : List Order) (i : ℕ) (o : Order) → lawful-orders os ≡ true → i < length os → o ≡ getD os i o → lawful-order o ≡ true
-read os i o s h e = rw e (lawful-at os i o h s)
 
 pub requirement-small : (p price q : ℕ) → p ≤ 100 → price ≤ 100000000 → q ≤ 50000 → requirement p price q ≤ 50000000000
 unfolding requirement

@@ -7,8 +7,9 @@ use Prim.Native.Nat.{ℕ, _+_, _*_, _≤_, _<_}
 use native.Mathlib.Omega.{arith}
 use lib.Dec.{eqb}
 use lib.ListN.{length, take, getD, set}
-use Rattle.std.proofs.shelf.Lists.{take-more, getD-set-same, getD-set-other}
-use Rattle.std.proofs.shelf.Tests.{cases-eq, eq-eqb, ne-eqb, cond-true, cond-false}
+use Rattle.std.proofs.shelf.Lists.{take-more}
+use Rattle.std.proofs.shelf.Tests.{cases-eq, eq-eqb, ne-eqb}
+use Rattle.slots.proofs.Places.{set-at}
 use Rattle.terms.specs.declared.side.Side.{Side}
 use Rattle.terms.specs.Codes.{same-side}
 use Rattle.orders.specs.declared.order.Order.{Order}
@@ -36,16 +37,13 @@ module _ (os : List Order) (i : ℕ) (o : Order) (h : i < length os) (e : o ≡ 
   ordered-more a s = ap (ordered-of a s) front ∙ ordered-push a s (take i os) o
 
 -- a sum, after w was added at account k
-module _ (sums : List ℕ) (k a w : ℕ) (inside : k < length sums) where
-  pub added-at : getD (set sums k (getD sums k 0 + w)) a 0 ≡ getD sums a 0 + cond (eqb k a) w 0
-  added-at =
-      ⊎-elim
-      (λ (s : k ≡ a).
-      ap (λ (n : ℕ). getD (set sums k (getD sums k 0 + w)) n 0) (sym s) ∙ getD-set-same sums k (getD sums k 0 + w) 0 inside ∙ ap (λ (n : ℕ). getD sums n 0 + w) s
-      ∙ ap (λ (n : ℕ). getD sums a 0 + n) (sym (cond-true (eqb k a) w 0 (eq-eqb k a s))))
-      (λ (d : k ≡ a → ⊥).
-      getD-set-other sums k a (getD sums k 0 + w) 0 (λ e. d (sym e)) ∙ omega (arith, cond-false (eqb k a) w 0 (ne-eqb k a d)))
-      (cases-eq k a)
+pub added-at : (sums : List ℕ) (k a w : ℕ) → k < length sums → getD (set sums k (getD sums k 0 + w)) a 0 ≡ getD sums a 0 + cond (eqb k a) w 0
+added-at sums k a w inside =
+    let e = set-at sums k a (getD sums k 0 + w) 0 inside in
+    ⊎-elim
+    (λ (s : k ≡ a). e ∙ rw (eq-eqb k a s, s))
+    (λ (d : k ≡ a → ⊥). e ∙ rw (ne-eqb k a d) (omega arith))
+    (cases-eq k a)
 
 pub cond-small : (b : Bool) (w n : ℕ) → w ≤ n → cond b w 0 ≤ n
 cond-small true w n h = h

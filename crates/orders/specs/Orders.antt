@@ -1,11 +1,12 @@
 -- Orders in a list.
-use mathlib.Core.Bool.{Bool, true, false, not, cond, _&&_}
+use mathlib.Core.Bool.{Bool, false, not, cond, _&&_}
 use mathlib.Core.List.{List, [], _∷_}
 use Prim.Native.Nat.{ℕ, _+_}
 use lib.Dec.{eqb, leb}
 use lib.ListN.{getD}
 use Rattle.std.specs.declared.option.Option.{Option}
 use Rattle.std.specs.declared.option.Option.the-variants.{Some, None}
+use Rattle.slots.specs.Every.{every}
 use Rattle.terms.specs.Ranges.{between, price-max, position-max}
 use Rattle.orders.specs.declared.order.Order.{Order}
 
@@ -13,9 +14,8 @@ use Rattle.orders.specs.declared.order.Order.{Order}
 abbrev pub lawful-order : Order → Bool
 lawful-order o = between 2 255 (o .account) && (leb (o .price) price-max && between 1 position-max (o .quantity))
 
-unfoldable pub lawful-orders : List Order → Bool
-lawful-orders [] = true
-lawful-orders (o ∷ os) = lawful-order o && lawful-orders os
+abbrev pub lawful-orders : List Order → Bool
+lawful-orders = every lawful-order
 
 -- the place, counted from i, of the first order with a number
 unfoldable pub place-from : ℕ → ℕ → List Order → Option ℕ

@@ -9,9 +9,10 @@ use mir.Val.{Fits}
 use mir.Syntax.{w8}
 use Rattle.std.proofs.shelf.Lists.{getD-replicate, take-all, length-set}
 use Rattle.slots.specs.Items.{items}
+use Rattle.slots.proofs.Every.{every-read}
 use Rattle.slots.proofs.Items.{items-fit}
 use Rattle.orders.specs.Margins.{order-margin, margin-of}
-use Rattle.orders.proofs.Lawful.{read}
+use Rattle.orders.specs.Orders.{lawful-order}
 use Rattle.orders.proofs.Sums.{margin-more, added-at, cond-small}
 use Rattle.orders.proofs.margins.margins.Needs as need
 
@@ -23,7 +24,7 @@ pub margin-requires : need.margin-requires
 margin-requires c κs =
     let os = items (c .args .orders .now) in
     let h : c .loop-i .i < length os = omega (arith, c .len-i-end .ensures) in
-    record { mark = omega (arith, c .pre .mark); order = read os (c .loop-i .i) (c .get-o .result) (c .pre .orders) h (c .get-o .ensures) }
+    record { mark = omega (arith, c .pre .mark); order = every-read lawful-order os (c .loop-i .i) (c .get-o .result) (c .pre .orders) h (c .get-o .ensures) }
 
 pub add-sums : need.add-sums
 add-sums c =

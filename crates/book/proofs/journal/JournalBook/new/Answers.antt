@@ -4,6 +4,7 @@ use mathlib.Core.List.{List, []}
 use Prim.Native.Nat.{ℕ, _-_, min}
 use lib.IntN.{pos}
 use lib.ListN.{length}
+use Rattle.slots.specs.Every.{every}
 use Rattle.slots.specs.Items.{capacity}
 use Rattle.book.specs.declared.entry.Entry.{Entry}
 use Rattle.book.specs.Meaning.{Meaning, fresh}
@@ -11,7 +12,7 @@ use Rattle.book.specs.Entries.{proper, posted, journaled}
 use Rattle.book.proofs.journal.JournalBook.new.Needs as need
 
 pub ghost-result : need.ghost-result
-unfolding proper
+unfolding every
 ghost-result c = (omega (arith, c .new-entries .ensures .capacity), (ap proper (c .new-entries .ensures .items), tt))
 
 pub returns : need.returns

@@ -8,11 +8,12 @@ use mir.Val.{toZ, ofZ}
 use mir.Syntax.{w64}
 use Rattle.std.proofs.shelf.Lists.{take-all}
 use Rattle.slots.specs.Items.{items}
+use Rattle.slots.proofs.Every.{every-read}
 use Rattle.slots.proofs.Items.{items-fit}
 use Rattle.terms.proofs.Signs.{back, summed, natAbs-add}
 use Rattle.book.specs.declared.entry.Entry.{Entry}
 use Rattle.book.specs.Entries.{Proper, proper-entry, posted}
-use Rattle.book.proofs.Posting.{proper-at, proper-fact, posted-more, lawful-journal}
+use Rattle.book.proofs.Posting.{proper-fact, posted-more, lawful-journal}
 use Rattle.book.proofs.journal.methods.JournalBookBook.balance.Needs as need
 
 pub loop-i-holds : need.loop-i-holds
@@ -24,7 +25,7 @@ effect-sum-requires c κs =
     let es = items (c .args .self .now .entries) in
     let e = c .get .result in
     let h : c .loop-i .i < length es = omega (arith, c .len-i-end .ensures) in
-    proper-fact e (rw (c .get .ensures) (proper-at es (c .loop-i .i) e h (c .args .self .now .lawful)))
+    proper-fact e (every-read proper-entry es (c .loop-i .i) e (c .args .self .now .lawful) h (c .get .ensures))
 
 pub loop-i-again : need.loop-i-again
 loop-i-again c =

@@ -10,14 +10,15 @@ use Rattle.std.specs.declared.result.Result.{Result}
 use Rattle.std.specs.declared.result.Result.the-variants.{Ok, Err}
 use Rattle.std.proofs.shelf.Tests.{lt-ltb, cond-true, false≢true}
 use Rattle.slots.specs.Items.{items, free, capacity}
+use Rattle.slots.proofs.Every.{every-push}
 use Rattle.book.specs.declared.entry.Entry.{Entry}
 use Rattle.std.proofs.shelf.Results.{err-from-errBy}
 use Rattle.terms.specs.Refusals.{answer}
 use Rattle.terms.proofs.Refused.{unless-refused}
 use Rattle.book.specs.Meaning.{Lawful, entered, transfer-refusal}
-use Rattle.book.specs.Entries.{entry, proper, journaled}
+use Rattle.book.specs.Entries.{entry, proper-entry, proper, journaled}
 use Rattle.book.specs.Journal.{journal-meaning}
-use Rattle.book.proofs.Posting.{Admitted, admitted, transferred-taken, lawful-entered, lawful-journal, proper-test, proper-push, journaled-push}
+use Rattle.book.proofs.Posting.{Admitted, admitted, transferred-taken, lawful-entered, lawful-journal, proper-test, journaled-push}
 use Rattle.book.proofs.journal.methods.JournalBookBook.transfer.Needs as need
 
 -- where the transfer was admitted there is room, so the entry was appended
@@ -37,7 +38,7 @@ ghost-self c =
     let a′ : Admitted (room - length es) (e .payer) (e .payee) (e .amount) = rw (c .left .ensures .value) at a in
     let more = c .append .ensures .items ∙ cond-true (isOk (c .append .result)) (es ++ e ∷ []) es (appended es room e (c .append .result) a′ (c .append .ensures .value)) in
     let fine = proper-test e (record { payer = c .fits .payer .fits; payee = c .fits .payee .fits; apart = a .apart; some = a .some; small = a .small }) in
-    (omega (arith, c .append .ensures .capacity, b .few), (ap proper more ∙ proper-push es e (b .lawful) fine, tt))
+    (omega (arith, c .append .ensures .capacity, b .few), (ap proper more ∙ every-push proper-entry es e (b .lawful) fine, tt))
 
 pub returns : need.returns
 returns c =
