@@ -7,9 +7,9 @@ use Rattle.terms.specs.declared.refusal.Refusal.the-variants.{SettingOutOfRange
 use Rattle.desk.specs.declared.answer.Answer.{Answer}
 use Rattle.desk.specs.declared.answer.Answer.the-variants.{Taken, Refused}
 use Rattle.desk.specs.declared.counts.Counts.{Counts}
-use Rattle.desk.specs.declared.opening.Request.{Request}
+use Rattle.commands.specs.declared.opening.Request.{Request}
 use Rattle.desk.specs.Counting.{one-taken, one-refused}
-use Rattle.desk.specs.Openings.{request-lawful}
+use Rattle.commands.specs.Openings.{request-lawful}
 
 abbrev pub answered : Option Refusal → Answer
 answered None = Taken

@@ -1,10 +1,3 @@
-pub mod Fields
-pub mod Verbs
-pub mod Numbers
-pub mod Lines
-pub mod Commands
-pub mod Faults
-pub mod Openings
 pub mod Counting
 pub mod Answers
 pub mod Nouns

@@ -4,12 +4,12 @@ ghost use Rattle.std.specs.Results.{isOk, Cases};
 ghost use Rattle.terms.specs.declared.refusal.Refusal.the-variants.{SettingOutOfRange};
 ghost use Rattle.book.specs.Deposits.{deposit-refusal, deposited};
 ghost use Rattle.desk.specs.Answers.{answered, counted, open-counted};
-ghost use Rattle.desk.specs.Openings.{request-lawful, Admitted};
+ghost use Rattle.commands.specs.Openings.{request-lawful, Admitted};
 use crate::counts::Counts;
-use crate::opening::Opening;
-use crate::opening::Request;
 use book::Book;
 use book::deposits::move_deposit;
+use commands::opening::Opening;
+use commands::opening::Request;
 use std::fmt;
 use terms::Refusal;
 
@@ -22,7 +22,7 @@ pub enum Answer {
     NoLedger,
 }
 
-pub fn deposit<B: Book>(book: &mut B, account: u8, yen: u64, counts: &mut Counts) -> Answer
+pub(crate) fn deposit<B: Book>(book: &mut B, account: u8, yen: u64, counts: &mut Counts) -> Answer
     ensures answers { λ r. ⌜ r ≡ answered (deposit-refusal (meaning (now (book .entry))) account yen) ⌝ }
     ensures leaves { λ _. ⌜ meaning (now (book .exit)) ≡ deposited (meaning (now (book .entry))) account yen ⌝ }
     ensures counts { λ _. ⌜ now (counts .exit) ≡ counted (deposit-refusal (meaning (now (book .entry))) account yen) (now (counts .entry)) ⌝ }
@@ -40,7 +40,7 @@ pub fn deposit<B: Book>(book: &mut B, account: u8, yen: u64, counts: &mut Counts
 }
 
 // A taken `open` is no call of the book that it ends or makes; a refused one counts as a refused call.
-pub fn admit_counted(request: Request, counts: &mut Counts) -> Result<Opening, Refusal>
+pub(crate) fn admit_counted(request: Request, counts: &mut Counts) -> Result<Opening, Refusal>
     ensures test { λ r. ⌜ isOk r ≡ request-lawful request ⌝ }
     ensures cases { λ r. ⌜ Cases r (Admitted request) (λ e. e ≡ SettingOutOfRange) ⌝ }
     ensures counts { λ _. ⌜ now (counts .exit) ≡ open-counted request (now (counts .entry)) ⌝ }

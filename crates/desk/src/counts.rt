@@ -42,7 +42,7 @@ pub struct Counts {
 }
 
 impl Counts {
-    pub fn new() -> Counts
+    pub(crate) fn new() -> Counts
         ensures { λ r. ⌜ r ≡ none-counted ⌝ }
     {
         Counts {
@@ -54,19 +54,19 @@ impl Counts {
         }
     }
 
-    pub fn refused_with(&self, why: Refusal) -> u64
+    pub(crate) fn refused_with(&self, why: Refusal) -> u64
         ensures { λ r. ⌜ r ≡ refused-with (now (self .entry)) why ⌝ }
     {
         self.by_number[why.number() as usize]
     }
 
-    pub fn add_taken(&mut self)
+    pub(crate) fn add_taken(&mut self)
         ensures { λ _. ⌜ now (self .exit) ≡ one-taken (now (self .entry)) ⌝ }
     {
         self.taken = self.taken.saturating_add(1);
     }
 
-    pub fn add_refused(&mut self, why: Refusal)
+    pub(crate) fn add_refused(&mut self, why: Refusal)
         ensures { λ _. ⌜ now (self .exit) ≡ one-refused (now (self .entry)) why ⌝ }
     {
         let number = why.number() as usize;
@@ -74,13 +74,13 @@ impl Counts {
         self.by_number[number] = self.by_number[number].saturating_add(1);
     }
 
-    pub fn add_unreadable(&mut self)
+    pub(crate) fn add_unreadable(&mut self)
         ensures { λ _. ⌜ now (self .exit) ≡ one-unreadable (now (self .entry)) ⌝ }
     {
         self.unreadable = self.unreadable.saturating_add(1);
     }
 
-    pub fn add_early(&mut self)
+    pub(crate) fn add_early(&mut self)
         ensures { λ _. ⌜ now (self .exit) ≡ one-early (now (self .entry)) ⌝ }
     {
         self.early = self.early.saturating_add(1);

@@ -6,20 +6,12 @@ use std::io;
 use std::io::BufReader;
 
 mod answer;
-mod command;
 mod counts;
-mod field;
-mod line;
-mod money;
-mod number;
-mod opening;
 mod report;
 mod script;
 mod serve;
 mod several;
 mod totals;
-mod unreadable;
-mod verb;
 
 fn main(rt: LibcRuntime) -> io::Result<()> {
     match script_name(&rt) {

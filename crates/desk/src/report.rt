@@ -1,21 +1,21 @@
 // What the desk writes of a book: its state for programs; a statement and closing words for people.
 use crate::counts::Counts;
 use crate::counts::REFUSALS;
-use crate::money::Yen;
-use crate::money::YenDisplay;
-use crate::opening::KindDisplay;
-use crate::opening::Opening;
 use crate::several::Noun;
 use crate::several::Several;
 use crate::several::SeveralDisplay;
 use crate::totals::sums;
 use book::Book;
+use commands::opening::KindDisplay;
+use commands::opening::Opening;
 use std::io;
 use terms::ranges::COMPANY;
 use terms::ranges::PROPRIETARY;
 use terms::refusal::RefusalDisplay;
+use workings::money::Yen;
+use workings::money::YenDisplay;
 
-pub fn write_state<B: Book>(rt: &LibcRuntime, book: &B) -> io::Result<()> {
+pub(crate) fn write_state<B: Book>(rt: &LibcRuntime, book: &B) -> io::Result<()> {
     for account in 0..=255u8 {
         let sen = book.balance(account);
         if sen != 0 {
@@ -27,7 +27,7 @@ pub fn write_state<B: Book>(rt: &LibcRuntime, book: &B) -> io::Result<()> {
     println!(rt, "end")
 }
 
-pub fn write_statement<B: Book>(rt: &LibcRuntime, book: &B) -> io::Result<()> {
+pub(crate) fn write_statement<B: Book>(rt: &LibcRuntime, book: &B) -> io::Result<()> {
     println!(rt, "# {:>17}  {:>26}", "account", "yen")?;
     for account in 1..=255u8 {
         let sen = book.balance(account);
@@ -57,7 +57,7 @@ fn write_row(rt: &LibcRuntime, name: &str, sen: i128) -> io::Result<()> {
     println!(rt, "# {name:>17}  {amount:>26}")
 }
 
-pub fn write_closing<B: Book>(
+pub(crate) fn write_closing<B: Book>(
     rt: &LibcRuntime,
     opening: &Opening,
     book: &B,
@@ -81,7 +81,7 @@ pub fn write_closing<B: Book>(
     )
 }
 
-pub fn write_no_ledger(rt: &LibcRuntime, counts: &Counts) -> io::Result<()> {
+pub(crate) fn write_no_ledger(rt: &LibcRuntime, counts: &Counts) -> io::Result<()> {
     println!(rt, "# no ledger was opened")?;
     write_counts(rt, counts)
 }

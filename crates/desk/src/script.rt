@@ -14,7 +14,7 @@ pub struct Script<R> {
 }
 
 impl<R: BufRead> Script<R> {
-    pub fn new(heap: Global, reader: R) -> Script<R> {
+    pub(crate) fn new(heap: Global, reader: R) -> Script<R> {
         Script {
             reader,
             line: Vec::new(heap),
@@ -22,7 +22,7 @@ impl<R: BufRead> Script<R> {
     }
 
     // Goes to the next line; false at the end of the script.
-    pub fn advance(&mut self) -> io::Result<bool>
+    pub(crate) fn advance(&mut self) -> io::Result<bool>
         ensures { λ r. ⌜ made r (λ more. more ≡ ltb 0 (vec-len (now (self .exit) .line))) ⌝ }
     {
         self.line.clear();
@@ -30,7 +30,7 @@ impl<R: BufRead> Script<R> {
         Ok(read > 0)
     }
 
-    pub fn line(&self) -> &[u8]
+    pub(crate) fn line(&self) -> &[u8]
         ensures { λ r. ⌜ now r ≡ vec-items (now (self .entry) .line) ⌝ }
     {
         self.line.as_slice()
@@ -38,6 +38,6 @@ impl<R: BufRead> Script<R> {
 }
 
 // A loop over lines counts its turns; no script reaches their end.
-pub fn too_long() -> io::Error {
+pub(crate) fn too_long() -> io::Error {
     io::Error::other("the script has more than 18,446,744,073,709,551,615 lines")
 }

@@ -4,42 +4,43 @@ ghost use mathlib.Core.Bool.{false, cond, _||_};
 ghost use Rattle.std.specs.Options.{isSome, Cases as BySome};
 ghost use Rattle.std.specs.Vec.{made};
 ghost use Rattle.desk.specs.Answers.{open-counted};
-ghost use Rattle.desk.specs.Commands.{Holds};
+ghost use Rattle.commands.specs.Commands.{Holds};
 ghost use Rattle.desk.specs.Counting.{one-unreadable};
-ghost use Rattle.desk.specs.Lines.{skipped};
-ghost use Rattle.desk.specs.Openings.{request-lawful, Admitted};
-ghost use Rattle.desk.specs.Serving.{commanded, command-counted, Opens};
+ghost use Rattle.workings.specs.Lines.{skipped};
+ghost use Rattle.commands.specs.Openings.{request-lawful, Admitted};
+ghost use Rattle.desk.specs.Serving.{Workable, commanded, command-counted, early-counted, Opens};
 use crate::answer::Answer;
 use crate::answer::AnswerDisplay;
 use crate::answer::admit_counted;
 use crate::answer::deposit;
-use crate::command::Command;
-use crate::command::parse;
 use crate::counts::Counts;
-use crate::line::is_skipped;
-use crate::line::split;
-use crate::line::text_of;
-use crate::opening::Kind;
-use crate::opening::Opening;
-use crate::opening::Request;
 use crate::report::write_closing;
 use crate::report::write_no_ledger;
 use crate::report::write_state;
 use crate::report::write_statement;
 use crate::script::Script;
 use crate::script::too_long;
-use crate::unreadable::Unreadable;
-use crate::unreadable::UnreadableDisplay;
 use book::Book;
 use book::Entry;
 use book::JournalBook;
 use book::RunningBook;
 use book::journal::JournalBookBook;
 use book::running::RunningBookBook;
+use commands::command::Command;
+use commands::command::parse;
+use commands::line::is_skipped;
+use commands::line::split;
+use commands::line::text_of;
+use commands::opening::Kind;
+use commands::opening::Opening;
+use commands::opening::Request;
+use commands::unreadable::Unreadable;
+use commands::unreadable::UnreadableDisplay;
 use std::io;
 use std::io::BufRead;
+use workings::shown::WorkedDisplay;
 
-pub fn run<R: BufRead + Drop>(rt: &LibcRuntime, reader: R) -> io::Result<()> {
+pub(crate) fn run<R: BufRead + Drop>(rt: &LibcRuntime, reader: R) -> io::Result<()> {
     let mut script = Script::new(rt.alloc(), reader);
     let mut counts = Counts::new();
     let mut next = before_ledger(rt, &mut script, &mut counts)?;
@@ -66,21 +67,35 @@ fn before_ledger<R: BufRead>(
         if !script.advance()? {
             return Ok(None);
         }
-        match command_of(rt, script.line(), counts)? {
-            None => {}
-            Some(Command::Open(request)) => {
-                let opening = admit_answered(rt, request, counts)?;
-                if opening.is_some() {
-                    return Ok(opening);
-                }
-            }
-            Some(_) => {
-                counts.add_early();
-                println!(rt, "{}", Answer::NoLedger)?;
+        if let Some(command) = command_of(rt, script.line(), counts)? {
+            let opening = answer_early(rt, command, counts)?;
+            if opening.is_some() {
+                return Ok(opening);
             }
         }
     }
     Err(too_long())
+}
+
+// Answers a command before any ledger, but for a taken `open`, which it hands on.
+fn answer_early(
+    rt: &LibcRuntime,
+    command: Command,
+    counts: &mut Counts,
+) -> io::Result<Option<Opening>>
+    requires { ⌜ Workable command ⌝ }
+    ensures counts { λ _. ⌜ now (counts .exit) ≡ early-counted command (now (counts .entry)) ⌝ }
+    ensures opens { λ r. ⌜ made r (Opens command) ⌝ }
+{
+    match command {
+        Command::Open(request) => return admit_answered(rt, request, counts),
+        Command::Deposit { .. } | Command::State | Command::Statement => {
+            counts.add_early();
+            println!(rt, "{}", Answer::NoLedger)?;
+        }
+        Command::Work(working) => println!(rt, "# {}", working.worked())?,
+    }
+    Ok(None)
 }
 
 // Makes the book of an opening and serves it until the next taken `open`.
@@ -185,6 +200,7 @@ fn answer_command<B: Book>(
     command: Command,
     counts: &mut Counts,
 ) -> io::Result<Option<Opening>>
+    requires { ⌜ Workable command ⌝ }
     ensures leaves { λ _. ⌜ meaning (now (book .exit)) ≡ commanded (meaning (now (book .entry))) command ⌝ }
     ensures counts { λ _. ⌜ now (counts .exit) ≡ command-counted (meaning (now (book .entry))) command (now (counts .entry)) ⌝ }
     ensures opens { λ r. ⌜ made r (Opens command) ⌝ }
@@ -197,6 +213,7 @@ fn answer_command<B: Book>(
         }
         Command::State => write_state(rt, book)?,
         Command::Statement => write_statement(rt, book)?,
+        Command::Work(working) => println!(rt, "# {}", working.worked())?,
     }
     Ok(None)
 }

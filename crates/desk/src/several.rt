@@ -1,8 +1,8 @@
 ghost use mathlib.Core.Path.{_≡_};
 ghost use Rattle.desk.specs.Nouns.{noun-for};
-use crate::money::Grouped;
-use crate::money::GroupedDisplay;
 use std::fmt;
+use workings::money::Grouped;
+use workings::money::GroupedDisplay;
 
 // Things that are counted.
 #[derive(Clone, Copy)]

@@ -13,7 +13,7 @@ pub struct Totals {
     pub owed: i128,
 }
 
-pub fn sums<B: Book>(book: &B) -> Totals
+pub(crate) fn sums<B: Book>(book: &B) -> Totals
     ensures held { λ r. ⌜ r .held ≡ clients (meaning (now (book .entry))) ⌝ }
     ensures owed { λ r. ⌜ r .owed ≡ negℤ (meaning (now (book .entry)) .balance 0) ⌝ }
     ensures agree { λ r. ⌜ r .held ≡ r .owed ⌝ }
@@ -25,7 +25,7 @@ pub fn sums<B: Book>(book: &B) -> Totals
 }
 
 impl Totals {
-    pub fn verdict(self) -> &'static str
+    pub(crate) fn verdict(self) -> &'static str
         ensures agree { λ r. ⌜ (self .held ≡ self .owed → now r ≡ codes "they agree") ⌝ }
         ensures differ { λ r. ⌜ ((self .held ≡ self .owed → ⊥) → now r ≡ codes "they DO NOT agree") ⌝ }
     {

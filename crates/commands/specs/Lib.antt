@@ -1,0 +1,5 @@
+pub mod Fields
+pub mod Verbs
+pub mod Commands
+pub mod Faults
+pub mod Openings
