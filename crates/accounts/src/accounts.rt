@@ -1,6 +1,9 @@
 ghost use mathlib.Core.Path.{_≡_};
-ghost use lib.ListN.{getD, set, replicate};
+ghost use mathlib.Core.Bool.{cond};
+ghost use Prim.Native.Nat.{ℕ, _<_};
+ghost use lib.Dec.{eqb};
 ghost use Rattle.accounts.specs.declared.state.AccountState.the-variants.{Sound};
+ghost use Rattle.accounts.specs.States.{state-of};
 use crate::state::AccountState;
 
 // The state of every account.
@@ -12,7 +15,7 @@ pub struct Accounts {
 impl Accounts {
     // All accounts are sound.
     pub fn new() -> Accounts
-        ensures { λ r. ⌜ r .states ≡ replicate 256 Sound ⌝ }
+        ensures { λ r. ⌜ ((a : ℕ) → a < 256 → state-of r a ≡ Sound) ⌝ }
     {
         Accounts {
             states: [AccountState::Sound; 256],
@@ -20,14 +23,14 @@ impl Accounts {
     }
 
     pub fn state(&self, account: u8) -> AccountState
-        ensures { λ r. ⌜ r ≡ getD (now (self .entry) .states) account r ⌝ }
+        ensures { λ r. ⌜ r ≡ state-of (now (self .entry)) account ⌝ }
     {
         self.states[account as usize]
     }
 
     // Puts one account into a state; the others keep theirs.
     pub fn set(&mut self, account: u8, state: AccountState)
-        ensures { λ _. ⌜ now (self .exit) .states ≡ set (now (self .entry) .states) account state ⌝ }
+        ensures { λ _. ⌜ ((a : ℕ) → state-of (now (self .exit)) a ≡ cond (eqb account a) state (state-of (now (self .entry)) a)) ⌝ }
     {
         self.states[account as usize] = state;
     }

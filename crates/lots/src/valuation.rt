@@ -43,6 +43,8 @@ pub fn holdings(lots: &List<Lot>, time: u32, price: u32) -> [Holding; 256]
     requires few { ⌜ capacity (now lots) ≤ 4096 ⌝ }
     requires lots { ⌜ lawful-lots time (items (now lots)) ≡ true ⌝ }
     ensures value { λ r. ⌜ ((a : ℕ) → a < 256 → getD r a no-holding ≡ holding-of a (pos price) (items (now (lots .entry)))) ⌝ }
+    ensures bound { λ r. ⌜ ((a : ℕ) → a < 256 → natAbs (getD r a no-holding .worth) ≤ 76240000000000 * 4096) ⌝ }
+    ensures few { λ r. ⌜ ((a : ℕ) → a < 256 → getD r a no-holding .units ≤ 50000 * 4096) ⌝ }
 {
     let none = Holding { worth: 0, units: 0 };
     let mut sums = [none; 256];

@@ -100,4 +100,9 @@ pub returns : need.returns
 returns c =
     let ls = items (c .args .lots .now) in
     let h : length ls ≤ c .loop-i .i = omega (arith, c .len-i-end .ensures) in
-    record { value = λ a j. c .loop-i .inv .1 a j ∙ ap (holding-of a (pos (c .args .price))) (take-all (c .loop-i .i) ls h) }
+    let most : c .loop-i .i ≤ 4096 = omega (arith, items-fit (c .args .lots .now), c .pre .few, c .len-i-end .ensures) in
+    record {
+      value = λ a j. c .loop-i .inv .1 a j ∙ ap (holding-of a (pos (c .args .price))) (take-all (c .loop-i .i) ls h);
+      bound = λ a j. omega (arith, c .loop-i .inv .2 a j);
+      few = λ a j. omega (arith, c .loop-i .inv .3 a j);
+    }
