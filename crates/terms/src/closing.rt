@@ -26,7 +26,8 @@ pub fn split_charge(charge: i64, closed: u32, quantity: u32) -> (i64, i64)
     ensures all { λ r. ⌜ (closed ≡ quantity → (r .0 ≡ charge) × (r .1 ≡ pos 0)) ⌝ }
 {
     let share = share_of(charge, closed, quantity);
-    (share, charge - share)
+    let rest = charge - share;
+    (share, rest)
 }
 
 // What so many units rise in sen from one price to another.

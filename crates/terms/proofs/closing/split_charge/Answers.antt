@@ -13,8 +13,8 @@ use Rattle.terms.proofs.closing.split_charge.Needs as need
 told : (f s : ℤ) (x q : ℕ) → SFits w64 f → SFits w64 s → s ≡ share (toZ w64 (ofZ w64 f)) x q → toZ w64 (ofZ w64 s) ≡ share f x q
 told f s x q h k e = toZ-ofZ w64 s k ∙ e ∙ ap (λ (z : ℤ). share z x q) (toZ-ofZ w64 f h)
 
-pub sub-result : need.sub-result
-sub-result c =
+pub sub-rest : need.sub-rest
+sub-rest c =
     let f = c .args .charge in
     let x = c .args .closed in
     let q = c .args .quantity in
