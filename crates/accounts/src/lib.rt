@@ -1,4 +1,6 @@
 // The state of each account, and what a review decides of one.
+#![tactic(auto)]
+
 pub mod accounts;
 pub mod review;
 pub mod standing;

@@ -1,8 +1,8 @@
 -- What a book means.
-use Rattle.std.specs.Prelude.{◌≡◌, ℕ, zero, suc, ◌+◌, ◌-◌, ◌*◌, ◌<◌, ◌≤◌, Bool, cond, not, ◌||◌, [], ◌∷◌, ℤ, pos, ◌+ℤ◌, ◌-ℤ◌, Option, ◌==◌, nat_eq, unsigned_abs}
+use Rattle.std.specs.Prelude.{◌≡◌, ℕ, zero, suc, ◌+◌, ◌-◌, ◌*◌, ◌<◌, ◌≤◌, cond, not, ◌||◌, [], ◌∷◌, ℤ, pos, ◌+ℤ◌, ◌-ℤ◌, Option, ◌==◌, nat_eq, unsigned_abs}
 use Rattle.terms.specs.declared.refusal.Refusal.{Refusal}
 use Rattle.terms.specs.declared.refusal.Refusal.TheVariants.{NoEntryLeft, TransferUnlawful}
-use Rattle.terms.specs.Ranges.{between, accounts, bank, transfer_max, entries_max}
+use Rattle.terms.specs.Ranges.{between, accounts, transfer_max, entries_max}
 use Rattle.terms.specs.Refusals.{◌gives◌, first, unless}
 
 -- a balance in sen for each account 0 to 255, the entries made, and those left

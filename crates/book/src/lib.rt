@@ -1,4 +1,6 @@
 // Books, in which the ledger's money lies: what one means, two kinds of them, and code that works over any.
+#![tactic(auto)]
+
 pub mod admission;
 pub mod book;
 pub mod clients;

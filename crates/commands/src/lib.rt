@@ -1,4 +1,6 @@
 // The commands of a script: reads the words of a line, and says why one cannot be read.
+#![tactic(auto)]
+
 pub mod command;
 pub mod field;
 pub mod line;

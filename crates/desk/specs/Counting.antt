@@ -1,5 +1,5 @@
 -- What is counted of the lines of a script.
-use Rattle.std.specs.Prelude.{ℕ, ◌+◌, min, cond, replicate, slice_index, slice_set}
+use Rattle.std.specs.Prelude.{ℕ, ◌+◌, min, replicate, slice_index, slice_set}
 use Rattle.terms.specs.declared.refusal.Refusal.{Refusal}
 use Rattle.terms.specs.Refusals.{number_of}
 use Rattle.desk.specs.declared.counts.Counts.{Counts}

@@ -22,9 +22,9 @@ pub enum Answer {
 }
 
 pub(crate) fn deposit<B: Book>(book: &mut B, account: u8, yen: u64, counts: &mut Counts) -> Answer
-    ensures answers { result ≡ answered (deposit_refusal (meaning book.old) account yen) }
-    ensures leaves { meaning book.new ≡ deposited (meaning book.old) account yen }
-    ensures counts { counts.new ≡ counted (deposit_refusal (meaning book.old) account yen) counts.old }
+    ensures answers { result ≡ answered (deposit_refusal (B.meaning book.old) account yen) }
+    ensures leaves { B.meaning book.new ≡ deposited (B.meaning book.old) account yen }
+    ensures counts { counts.new ≡ counted (deposit_refusal (B.meaning book.old) account yen) counts.old }
 {
     match move_deposit(book, account, yen) {
         Ok(()) => {

@@ -1,4 +1,6 @@
 // The desk: reads a script of commands, one to a line, and posts client money.
+#![tactic(auto)]
+
 use crate::serve::run;
 use std::io::BufReader;
 use std::{env, fs, io};

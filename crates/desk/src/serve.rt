@@ -180,8 +180,8 @@ fn answer_command<B: Book>(
     counts: &mut Counts,
 ) -> io::Result<Option<Opening>>
     requires { Workable command }
-    ensures leaves { meaning book.new ≡ commanded (meaning book.old) command }
-    ensures counts { counts.new ≡ command_counted (meaning book.old) command counts.old }
+    ensures leaves { B.meaning book.new ≡ commanded (B.meaning book.old) command }
+    ensures counts { counts.new ≡ command_counted (B.meaning book.old) command counts.old }
     ensures opens { IfOk result (Opens command) }
 {
     match command {

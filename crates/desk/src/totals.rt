@@ -13,8 +13,8 @@ pub struct Totals {
 }
 
 pub(crate) fn sums<B: Book>(book: &B) -> Totals
-    ensures held { result.held ≡ clients (meaning book.now) }
-    ensures owed { result.owed ≡ neg_ℤ ((meaning book.now).balance 0) }
+    ensures held { result.held ≡ clients (B.meaning book.now) }
+    ensures owed { result.owed ≡ neg_ℤ ((B.meaning book.now).balance 0) }
     ensures agree { result.held ≡ result.owed }
 {
     Totals {

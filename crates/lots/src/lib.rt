@@ -1,4 +1,6 @@
 // Lots: what they are worth at a price, and what each account holds of them.
+#![tactic(auto)]
+
 pub mod holding;
 pub mod valuation;
 

@@ -1,4 +1,6 @@
 // Orders: their margins, what remains of them, finding one, and voiding an account's.
+#![tactic(auto)]
+
 pub mod margins;
 pub mod order;
 pub mod search;

@@ -1,12 +1,12 @@
 -- An account without lots and orders is left as it is.
-use Rattle.std.proofs.Common.{◌≡◌, ℕ, ◌+◌, ◌*◌, Bool, true, false, cond, not, ◌||◌, eqb, ltb, ℤ, sym, refl, ap, ◌∙◌, mul-zero, zero-mul, arith}
+use Rattle.std.proofs.Common.{◌≡◌, ℕ, ◌+◌, Bool, true, false, cond, not, ◌||◌, eqb, ℤ, refl, ap, ◌∙◌, mul-zero, zero-mul, arith}
 use Rattle.terms.specs.Rounding.{ceiling}
 use Rattle.terms.specs.Margins.{requirement}
 use Rattle.lots.specs.declared.holding.Holding.{Holding}
 use Rattle.accounts.specs.declared.state.AccountState.{AccountState}
 use Rattle.accounts.specs.declared.standing.Standing.{Standing}
 use Rattle.accounts.specs.declared.standing.Decision.{Decision}
-use Rattle.accounts.specs.Review.{is_open, falls, lacks, decide, reviewed}
+use Rattle.accounts.specs.Review.{is_open, decide, reviewed}
 use Rattle.reviews.specs.Standings.{standing_by}
 
 pub nothing_required : (p price q : ℕ) → q ≡ 0 → requirement p price q ≡ 0

@@ -1,7 +1,7 @@
 -- A review over what a review left changes nothing more.
-use Rattle.std.proofs.Common.{◌≡◌, ℕ, ◌+◌, ◌<◌, Bool, true, false, cond, not, ◌||◌, eqb, List, [], ◌∷◌, pos, filter, sym, refl, ap, ◌∙◌, ⊎_elim, arith}
+use Rattle.std.proofs.Common.{◌≡◌, ℕ, ◌+◌, Bool, true, false, cond, not, ◌||◌, eqb, List, [], ◌∷◌, pos, filter, sym, refl, ap, ◌∙◌, arith}
 use mathlib.Core.Bool.{false≢true}
-use Rattle.std.proofs.lemmas.Bool.{ne_eqb, cond-true, cond-false}
+use Rattle.std.proofs.lemmas.Bool.{ne_eqb, cond-false}
 use Rattle.lots.specs.Worth.{holding_of}
 use Rattle.orders.specs.declared.order.Order.{Order}
 use Rattle.orders.specs.Margins.{order_margin, margin_of}
@@ -12,7 +12,7 @@ use Rattle.accounts.specs.declared.standing.Decision.{Decision}
 use Rattle.accounts.specs.declared.standing.Standing.{Standing}
 use Rattle.accounts.specs.Review.{is_open, decide, reviewed, falls, lacks}
 use Rattle.accounts.specs.States.{state_of}
-use Rattle.reviews.specs.Standings.{standing_by, standing_of}
+use Rattle.reviews.specs.Standings.{standing_by}
 use Rattle.reviews.specs.Reviews.{decided, orders_left, ReviewingAllTwiceIsOnce}
 use Rattle.reviews.proofs.Kept.{kept_again, owned}
 

@@ -1,5 +1,5 @@
 -- What a review decides of every account, and the orders that it leaves.
-use Rattle.std.specs.Prelude.{◌≡◌, ℕ, ◌<◌, Bool, true, not, List, ℤ, filter}
+use Rattle.std.specs.Prelude.{◌≡◌, ℕ, ◌<◌, true, not, List, ℤ, filter}
 use Rattle.terms.specs.declared.lot.Lot.{Lot}
 use Rattle.book.specs.Meaning.{Meaning}
 use Rattle.lots.specs.declared.holding.Holding.{Holding}

@@ -30,7 +30,7 @@ fn decide<B: Book>(
 ) -> Decision
     requires worth { unsigned_abs holding.worth ≤ 76240000000000 * 4096 }
     requires ordered { ordered ≤ 50000000000 * 4096 }
-    ensures { result ≡ decided_by ((meaning book.now).balance account) settings.now.margin_percent spot account accounts.now holding ordered }
+    ensures { result ≡ decided_by ((B.meaning book.now).balance account) settings.now.margin_percent spot account accounts.now holding ordered }
 {
     let state = accounts.state(account);
     if holding.units == 0 && ordered == 0 {
@@ -54,8 +54,8 @@ fn decide_all<B: Book>(
 ) -> [bool; 256]
     requires worths { (a : ℕ) → a < 256 → unsigned_abs (get_or holdings.now a no_holding).worth ≤ 76240000000000 * 4096 }
     requires margins { (a : ℕ) → a < 256 → slice_index margins.now a ≤ 50000000000 * 4096 }
-    ensures states { (a : ℕ) → a < 256 → state_of accounts.new a ≡ (decided_by ((meaning book.now).balance a) settings.now.margin_percent spot a accounts.old (slice_index_or holdings.now a no_holding) (slice_index margins.now a)).state }
-    ensures voids { (a : ℕ) → a < 256 → slice_index_or result a false ≡ (decided_by ((meaning book.now).balance a) settings.now.margin_percent spot a accounts.old (slice_index_or holdings.now a no_holding) (slice_index margins.now a)).void }
+    ensures states { (a : ℕ) → a < 256 → state_of accounts.new a ≡ (decided_by ((B.meaning book.now).balance a) settings.now.margin_percent spot a accounts.old (slice_index_or holdings.now a no_holding) (slice_index margins.now a)).state }
+    ensures voids { (a : ℕ) → a < 256 → slice_index_or result a false ≡ (decided_by ((B.meaning book.now).balance a) settings.now.margin_percent spot a accounts.old (slice_index_or holdings.now a no_holding) (slice_index margins.now a)).void }
 {
     let mut void = [false; 256];
     for a in 0..256usize {
@@ -91,8 +91,8 @@ pub fn review<B: Book>(
     requires lots { lawful_lots time (items lots.now) ≡ true }
     requires few_orders { capacity orders.old ≤ 4096 }
     requires orders { lawful_orders (items orders.old) ≡ true }
-    ensures states { (a : ℕ) → a < 256 → state_of accounts.new a ≡ (decided (meaning book.now) settings.now.margin_percent spot mark (items lots.now) (items orders.old) accounts.old a).state }
-    ensures orders { items orders.new ≡ orders_left (meaning book.now) settings.now.margin_percent spot mark (items lots.now) (items orders.old) accounts.old }
+    ensures states { (a : ℕ) → a < 256 → state_of accounts.new a ≡ (decided (B.meaning book.now) settings.now.margin_percent spot mark (items lots.now) (items orders.old) accounts.old a).state }
+    ensures orders { items orders.new ≡ orders_left (B.meaning book.now) settings.now.margin_percent spot mark (items lots.now) (items orders.old) accounts.old }
     ensures free { drop (length (items orders.old) - length (items orders.new)) (free orders.new) ≡ free orders.old }
     ensures capacity { capacity orders.new ≡ capacity orders.old }
 {

@@ -19,7 +19,7 @@ pub fn standing<B: Book>(
 ) -> Standing
     requires worth { unsigned_abs holding.worth ≤ 76240000000000 * 4096 }
     requires ordered { ordered ≤ 50000000000 * 4096 }
-    ensures { result ≡ standing_by ((meaning book.now).balance account) settings.now.margin_percent spot account holding ordered }
+    ensures { result ≡ standing_by ((B.meaning book.now).balance account) settings.now.margin_percent spot account holding ordered }
 {
     let equity = book.balance(account) + holding.worth;
     if account == PROPRIETARY {

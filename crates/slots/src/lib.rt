@@ -1,4 +1,6 @@
 // One list over lent slots, for every record that the ledger and its books keep.
+#![tactic(auto)]
+
 pub mod list;
 mod methods;
 

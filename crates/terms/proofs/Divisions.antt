@@ -1,5 +1,5 @@
 -- Quotients: how large they are, and what rounding up gives.
-use Rattle.std.proofs.Common.{◌≡◌, ℕ, zero, suc, ◌+◌, ◌-◌, ◌*◌, ◌/◌, ◌%◌, ◌<◌, ◌≤◌, min, ℤ, pos, negsuc, ◌*ℤ◌, neg_ℤ, nat_abs, sym, refl, ap, ◌∙◌, mod-lt, mul_comm, add-mul, div-add-mod', arith}
+use Rattle.std.proofs.Common.{◌≡◌, ℕ, zero, suc, ◌+◌, ◌-◌, ◌*◌, ◌/◌, ◌%◌, ◌<◌, ◌≤◌, min, ℤ, pos, negsuc, ◌*ℤ◌, nat_abs, sym, refl, mod-lt, mul_comm, add-mul, div-add-mod', arith}
 use native.Mathlib.Nat.{div-eq_of_lt-le, div-le_of_le-mul}
 use lib.Signed.{quot_z}
 use Rattle.std.proofs.lemmas.Nat.{div_below}

@@ -1,5 +1,5 @@
 -- What keeps a lot's charge within its limit.
-use Rattle.std.proofs.Common.{◌≡◌, ℕ, zero, suc, ◌+◌, ◌-◌, ◌*◌, ◌/◌, ◌%◌, ◌<◌, ◌≤◌, min, cond, leb, List, [], ◌∷◌, ℤ, pos, negsuc, ◌+ℤ◌, ◌-ℤ◌, ◌*ℤ◌, neg_ℤ, nat_abs, sym, refl, ap, ◌∙◌, ⊎_elim, mul-le-mul_right, add-mul, mul-le-mul_left, arith}
+use Rattle.std.proofs.Common.{◌≡◌, ℕ, zero, suc, ◌+◌, ◌*◌, ◌/◌, ◌%◌, ◌<◌, ◌≤◌, min, cond, leb, List, [], ◌∷◌, ℤ, pos, negsuc, ◌-ℤ◌, ◌*ℤ◌, nat_abs, sym, refl, ap, ◌∙◌, ⊎_elim, mul-le-mul_right, add-mul, arith}
 use lib.Signed.{quot_z}
 use Rattle.std.proofs.lemmas.Nat.{mul-le}
 use Rattle.std.proofs.lemmas.Int.{ints}
@@ -11,11 +11,11 @@ use Rattle.terms.specs.declared.moments.Due.{Due}
 use Rattle.terms.specs.declared.settings.Settings.{Settings}
 use Rattle.terms.specs.declared.side.Side.{Side}
 use Rattle.terms.specs.declared.side.Side.TheVariants.{Buy, Sell}
-use Rattle.terms.specs.Rounding.{ceiling, within}
-use Rattle.terms.specs.Charges.{points, difference, payer, paid, received, funding, added}
+use Rattle.terms.specs.Rounding.{within}
+use Rattle.terms.specs.Charges.{points, difference, paid, received, funding, added}
 use Rattle.terms.specs.Closing.{share, sided, settlement}
-use Rattle.terms.specs.Moments.{day, day_length, due, timetable, upcoming, on_day, next_due}
-use Rattle.terms.specs.Bounds.{weight, weights, charge_limit, Bounded, MomentsKeepTheBound, ClosingKeepsTheBound, SettlementsAreLawful}
+use Rattle.terms.specs.Moments.{timetable, next_due}
+use Rattle.terms.specs.Bounds.{weight, weights, charge_limit, MomentsKeepTheBound, ClosingKeepsTheBound, SettlementsAreLawful}
 use Rattle.terms.proofs.Signs.{nat_abs_add, nat_abs_sub, nat_abs_neg, nat_abs_mul}
 use Rattle.terms.proofs.Divisions.{div_at_most, ceiling_at_most}
 use Rattle.terms.proofs.Shares.{share_bounded, rest_bounded}

@@ -1,6 +1,6 @@
 -- Shares of a charge: their size, and what bounds they keep.
-use Rattle.std.proofs.Common.{◌≡◌, ℕ, zero, suc, ◌+◌, ◌-◌, ◌*◌, ◌/◌, ◌^◌, ◌<◌, ◌≤◌, ℤ, pos, negsuc, ◌+ℤ◌, ◌-ℤ◌, ◌*ℤ◌, neg_ℤ, nat_abs, sym, refl, ap, ◌∙◌, ⊎_elim, mul_assoc, mul_comm, add-mul, mul-le-mul_left, zero-mul, mul-add, mul-div_cancel, arith, w64, SFits}
-use borrow.Author.Differences.{up, down, ints, same_in, sum_is_lem, neg_is, product_is, quot_is, abs_is, fits_in, fits_out}
+use Rattle.std.proofs.Common.{◌≡◌, ℕ, ◌+◌, ◌-◌, ◌*◌, ◌/◌, ◌<◌, ◌≤◌, ℤ, pos, negsuc, ◌-ℤ◌, ◌*ℤ◌, nat_abs, sym, ap, ◌∙◌, ⊎_elim, mul_assoc, mul_comm, add-mul, mul-le-mul_left, zero-mul, mul-add, mul-div_cancel, arith, w64, SFits}
+use borrow.Author.Differences.{up, down, ints, same_in, product_is, quot_is}
 use Rattle.std.proofs.lemmas.Nat.{mul-le, le-div}
 use Rattle.terms.specs.Closing.{share}
 use Rattle.std.proofs.lemmas.Bool.{cases_lt}

@@ -1,12 +1,10 @@
 -- The timetable, case by case.
-use Rattle.std.proofs.Common.{◌≡◌, ℕ, ◌+◌, ◌-◌, ◌*◌, ◌/◌, ◌%◌, ◌<◌, ◌≤◌, cond, eqb, ltb, leb, Some, None, sym, refl, ap, ◌∙◌, arith}
-use Rattle.std.proofs.lemmas.Bool.{cond_both, ltb-true, ltb-false, ne_eqb, eq-eqb}
-use Rattle.std.proofs.lemmas.Bool.Decides.{nat_tests}
+use Rattle.std.proofs.Common.{◌≡◌, ℕ, ◌+◌, ◌-◌, ◌*◌, ◌/◌, ◌%◌, ◌<◌, ◌≤◌, ltb, Some, None, sym, refl, arith}
+use Rattle.std.proofs.lemmas.Bool.{cond_both, ltb-true, ltb-false, ne_eqb}
 use Rattle.terms.specs.declared.moments.Moment.{Moment}
 use Rattle.terms.specs.declared.moments.Moment.TheVariants.{Funding, Deadline, Rollover}
 use Rattle.terms.specs.declared.moments.Due.{Due}
-use Rattle.terms.specs.Moments.{day, day_length, due, timetable, upcoming, on_day, next_due, scheduled, due_at, Next, NextDueIsNext}
-use Rattle.terms.specs.Bounds.{weight, weights, charge_limit}
+use Rattle.terms.specs.Moments.{due, timetable, upcoming, on_day, next_due, scheduled, Next, NextDueIsNext}
 
 -- what holds of each upcoming moment where it is the one, holds of the upcoming moment
 pub by_moment : (s : ℕ) (P : Due → Type 0)

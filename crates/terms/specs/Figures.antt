@@ -1,8 +1,7 @@
 -- Worked figures: each row is a definition applied, and its value. Each yen or sen below can be checked by hand.
-use Rattle.std.specs.Prelude.{◌≡◌, ℕ, Bool, cond, List, [], ◌∷◌, ◌++◌, map, ℤ, pos, negsuc, ◌-ℤ◌, neg_ℤ}
+use Rattle.std.specs.Prelude.{◌≡◌, ℕ, Bool, cond, List, [], ◌∷◌, ◌++◌, map, ℤ, pos, ◌-ℤ◌, neg_ℤ}
 use Rattle.std.specs.List.{AllByRecursion as All}
 use Rattle.terms.specs.declared.lot.Lot.{Lot}
-use Rattle.terms.specs.declared.side.Side.{Side}
 use Rattle.terms.specs.declared.side.Side.TheVariants.{Buy, Sell}
 use Rattle.terms.specs.Charges.{points, difference, paid, received}
 use Rattle.terms.specs.Margins.{requirement, short_of, at_cut_level, shortfall}

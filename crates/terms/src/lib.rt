@@ -1,4 +1,6 @@
 // The terms of the trade: units and ranges, refusals, sides and outcomes, settings, and the arithmetic of charges, margins and settlements.
+#![tactic(auto)]
+
 pub mod bands;
 pub mod calendar;
 pub mod charges;

@@ -4,7 +4,7 @@ use Rattle.workings.specs.declared.topic.Topic.{Topic}
 use Rattle.workings.specs.declared.working.Working.{Working}
 use Rattle.workings.specs.Lines.{texts}
 use Rattle.workings.specs.Topics.{topic_named}
-use Rattle.workings.specs.Workings.{topic_of, Figured, Makes, Asked}
+use Rattle.workings.specs.Workings.{Figured, Makes, Asked}
 use Rattle.workings.proofs.Cuts.{nowhere, texts_at, fields_are}
 
 pub asked : (ws : List (Bor (List ℕ))) (t : Topic) {E : Type 0} (r : Result Working E) → topic_named (get_or ws 0 nowhere).now ≡ Some t → IfOk r (Makes t (texts (take (length ws - 1) (drop 1 ws)))) → IfOk r (Asked (texts ws))

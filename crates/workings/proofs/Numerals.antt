@@ -1,13 +1,12 @@
 -- What `parse` says of a text of digits.
-use Rattle.std.proofs.Common.{◌≡◌, ℕ, ◌^◌, ◌<◌, ◌≤◌, true, ltb, leb, List, length, Ok, Err, Result, refl, ⊎_elim, arith, ltb-true, le-leb}
+use Rattle.std.proofs.Common.{◌≡◌, ℕ, ◌^◌, ◌<◌, ◌≤◌, true, List, length, Ok, Err, Result, refl, ⊎_elim, arith, ltb-true, le-leb}
 use borrow.Author.Tests.{lt-leb}
 use Rattle.std.specs.Result.{OkIff}
 use Rattle.std.specs.Str.Parse.{ParsesUnsigned}
 use Rattle.std.specs.Str.{all_ascii_digits}
 use Rattle.std.proofs.lemmas.Str.Parse.{IsNumeralModel, FoldsDigits, numerals_by_fold, tells_all_ascii_digits, parse_digits}
 use Rattle.std.proofs.lemmas.Bool.{and_parts, cases_lt}
-use Rattle.workings.specs.declared.number.NumberFault.{NumberFault}
-use Rattle.workings.specs.declared.number.NumberFault.TheVariants.{NoNumber, TooLarge}
+use Rattle.workings.specs.declared.number.NumberFault.TheVariants.{TooLarge}
 use Rattle.workings.specs.Numbers.{numeral, written_after, written, number_read}
 
 folds : FoldsDigits written_after

@@ -1,4 +1,6 @@
 // Numbers in texts, and the arithmetic of one charge for people: what is asked, and the line that shows it.
+#![tactic(auto)]
+
 pub mod asking;
 pub mod between;
 pub mod figure;

@@ -45,7 +45,7 @@ impl Ledger<'_> {
         account: u8,
         yen: u64,
     ) -> Result<(), Refusal>
-        ensures { result ≡ answer (first (withdraw_sentences account yen (view self.now) (meaning book.now))) }
+        ensures { result ≡ answer (first (withdraw_sentences account yen (view self.now) (B.meaning book.now))) }
     {
         if account < PROPRIETARY {
             return Err(Refusal::AccountOutOfRange);
@@ -77,7 +77,7 @@ impl Ledger<'_> {
     // Equity does not cover the margin with the order. The proprietary account is not asked.
     fn is_uncovered<B: Book>(&self, book: &B, order: Order) -> bool
         requires { lawful_order order ≡ true }
-        ensures { result ≡ uncovered order (view self.now) (meaning book.now) }
+        ensures { result ≡ uncovered order (view self.now) (B.meaning book.now) }
     {
         if order.account == PROPRIETARY {
             return false;
@@ -107,7 +107,7 @@ impl Ledger<'_> {
         requires price { price ≤ 100000000 }
         requires some { 1 ≤ quantity }
         requires few { quantity ≤ 10000 }
-        ensures { (n : ℕ) → result ≡ answer (first (order_sentences (plain_order n account side price quantity) (view self.now) (meaning book.now))) }
+        ensures { (n : ℕ) → result ≡ answer (first (order_sentences (plain_order n account side price quantity) (view self.now) (B.meaning book.now))) }
     {
         let order = Order {
             number: 0,

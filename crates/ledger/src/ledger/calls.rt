@@ -14,7 +14,7 @@ use terms::ranges::{BANK, PRICE_MAX, SEN_PER_YEN};
 impl Ledger<'_> {
     // A spot price comes.
     pub fn spot<B: Book>(&mut self, book: &B, price: u32) -> Result<(), Refusal>
-        ensures { Done 0 (spot_call price (view self.old) (meaning book.now)) result self.old self.new book.now book.now (meaning book.now) (meaning book.now) }
+        ensures { Done 0 (spot_call price (view self.old) (B.meaning book.now)) result self.old self.new book.now book.now (B.meaning book.now) (B.meaning book.now) }
     {
         if price < 1 || price > PRICE_MAX {
             return Err(Refusal::PriceOutOfRange);
@@ -26,7 +26,7 @@ impl Ledger<'_> {
 
     // Yen are paid in.
     pub fn deposit<B: Book>(&mut self, book: &mut B, account: u8, yen: u64) -> Result<(), Refusal>
-        ensures { Done 0 (deposit_call account yen (view self.old) (meaning book.old)) result self.old self.new book.old book.new (meaning book.old) (meaning book.new) }
+        ensures { Done 0 (deposit_call account yen (view self.old) (B.meaning book.old)) result self.old self.new book.old book.new (B.meaning book.old) (B.meaning book.new) }
     {
         move_deposit(book, account, yen)?;
         self.clear_call(book, account);
@@ -36,7 +36,7 @@ impl Ledger<'_> {
 
     // Yen are paid out.
     pub fn withdraw<B: Book>(&mut self, book: &mut B, account: u8, yen: u64) -> Result<(), Refusal>
-        ensures { Done 0 (withdraw_call account yen (view self.old) (meaning book.old)) result self.old self.new book.old book.new (meaning book.old) (meaning book.new) }
+        ensures { Done 0 (withdraw_call account yen (view self.old) (B.meaning book.old)) result self.old self.new book.old book.new (B.meaning book.old) (B.meaning book.new) }
     {
         self.admit_withdrawal(book, account, yen)?;
         book.transfer(account, BANK, SEN_PER_YEN * yen)?;
@@ -53,7 +53,7 @@ impl Ledger<'_> {
         price: u32,
         quantity: u32,
     ) -> Result<u32, Refusal>
-        ensures { Done 1 (order_call account side price quantity (view self.old) (meaning book.now)) result self.old self.new book.now book.now (meaning book.now) (meaning book.now) }
+        ensures { Done 1 (order_call account side price quantity (view self.old) (B.meaning book.now)) result self.old self.new book.now book.now (B.meaning book.now) (B.meaning book.now) }
     {
         let side = admit_form(account, side, price, quantity)?;
         self.admit_order(book, account, side, price, quantity)?;
@@ -74,7 +74,7 @@ impl Ledger<'_> {
 
     // An order is taken back.
     pub fn cancel<B: Book>(&mut self, book: &B, number: u32) -> Result<(), Refusal>
-        ensures { Done 0 (cancel_call number (view self.old) (meaning book.now)) result self.old self.new book.now book.now (meaning book.now) (meaning book.now) }
+        ensures { Done 0 (cancel_call number (view self.old) (B.meaning book.now)) result self.old self.new book.now book.now (B.meaning book.now) (B.meaning book.now) }
     {
         let Some(place) = find(&self.orders, number) else {
             return Err(Refusal::OrderNotHeld);

@@ -60,7 +60,7 @@ impl Ledger<'_> {
 
     // What an account holds in sen where all lots are closed out at a price; the company stands against every lot. Refused where the price is out of range.
     pub fn closed_out<B: Book>(&self, book: &B, account: u8, price: u32) -> Result<i64, Refusal>
-        ensures { result ≡ told (price_refusal price) (closed_out (view self.now) (meaning book.now) (pos price) account) }
+        ensures { result ≡ told (price_refusal price) (closed_out (view self.now) (B.meaning book.now) (pos price) account) }
     {
         if price < 1 || price > PRICE_MAX {
             return Err(Refusal::PriceOutOfRange);

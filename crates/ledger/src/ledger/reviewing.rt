@@ -38,7 +38,7 @@ impl Ledger<'_> {
 
     // How an account stands: equity, requirement, margin and units.
     pub fn standing<B: Book>(&self, book: &B, account: u8) -> Standing
-        ensures value { result ≡ standing (view self.now) (meaning book.now) account }
+        ensures value { result ≡ standing (view self.now) (B.meaning book.now) account }
         ensures small { result.margin ≤ 200000000000000000 }
     {
         standing_of(
@@ -55,7 +55,7 @@ impl Ledger<'_> {
 
     // Reviews every account, as every taken call ends.
     pub(crate) fn review<B: Book>(&mut self, book: &B)
-        ensures view { view self.new ≡ reviewed (meaning book.now) (view self.old) }
+        ensures view { view self.new ≡ reviewed (B.meaning book.now) (view self.old) }
         ensures slots { Untouched 0 self.old self.new }
     {
         let time = self.time;
@@ -75,7 +75,7 @@ impl Ledger<'_> {
 
     // Makes a called account sound again, if its equity now covers the requirement or it holds no lot.
     pub(crate) fn clear_call<B: Book>(&mut self, book: &B, account: u8)
-        ensures view { view self.new ≡ call_cleared account (meaning book.now) (view self.old) }
+        ensures view { view self.new ≡ call_cleared account (B.meaning book.now) (view self.old) }
         ensures slots { Untouched 0 self.old self.new }
     {
         let standing = self.standing(book, account);

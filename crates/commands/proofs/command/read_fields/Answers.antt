@@ -3,22 +3,22 @@ use Rattle.workings.specs.Numbers.{number_read}
 use Rattle.workings.proofs.Cuts.{length_texts, texts_at}
 use Rattle.commands.proofs.command.read_fields.Goals as goal
 
-pub returns-in-ok-read-request : goal.returns-in-ok-read-request
-returns-in-ok-read-request c =
+pub returns-in_ok-read_request-in-Open-len8 : goal.returns-in_ok-read_request-in-Open-len8
+returns-in_ok-read_request-in-Open-len8 c =
     let fs = c.args.fields.now in
     let many : length fs ≡ 8 = search rules in
     record {
       verb = sym c.in-Open-len8.is-0;
-      fields = (length_texts fs ∙ many, rw (texts_at fs 0, texts_at fs 1, texts_at fs 2, texts_at fs 3, texts_at fs 4, texts_at fs 5, texts_at fs 6, texts_at fs 7) c.in-ok-read-request.ensures);
+      fields = (length_texts fs ∙ many, rw (texts_at fs 0, texts_at fs 1, texts_at fs 2, texts_at fs 3, texts_at fs 4, texts_at fs 5, texts_at fs 6, texts_at fs 7) c.in_ok-read_request-in-Open-len8.ensures);
     }
 
-pub returns-in-ok-yen : goal.returns-in-ok-yen
-returns-in-ok-yen c =
+pub returns-in_ok-yen-in-Deposit-len2 : goal.returns-in_ok-yen-in-Deposit-len2
+returns-in_ok-yen-in-Deposit-len2 c =
     let fs = c.args.fields.now in
     let many : length fs ≡ 2 = search rules in
     record {
       verb = sym c.in-Deposit-len2.is-0;
-      fields = (length_texts fs ∙ many, ap (number_read _) (texts_at fs 0) ∙ c.in-ok-account.ensures, ap (number_read _) (texts_at fs 1) ∙ c.in-ok-yen.ensures);
+      fields = (length_texts fs ∙ many, ap (number_read _) (texts_at fs 0) ∙ c.in_ok-account-in-Deposit-len2.ensures, ap (number_read _) (texts_at fs 1) ∙ c.in_ok-yen-in-Deposit-len2.ensures);
     }
 
 pub returns-in-State-empty : goal.returns-in-State-empty

@@ -15,6 +15,6 @@ returns-in-Err g c =
     let was = refused_by o c.in-Err.why c.in-Err.ensures.answers in
     record {
       answers = sym (ap answered was);
-      leaves = c.move-deposit.ensures.leaves;
-      counts = c.add-refused.ensures ∙ sym (ap (λ w. counted w c.args.counts.now) was);
+      leaves = c.move_deposit.ensures.leaves;
+      counts = c.add_refused.ensures ∙ sym (ap (λ w. counted w c.args.counts.now) was);
     }

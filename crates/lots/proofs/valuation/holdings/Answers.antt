@@ -1,13 +1,11 @@
-use Rattle.std.proofs.Common.{◌≡◌, ℕ, ◌+◌, ◌*◌, ◌<◌, ◌≤◌, eqb, length, get_or, take, set, ℤ, pos, nat_abs, sym, refl, ap, ◌∙◌, ⊎_elim, arith, w8, w64, Fits, to_z, of_z, rules}
+use Rattle.std.proofs.Common.{◌≡◌, ℕ, ◌<◌, ◌≤◌, eqb, length, get_or, take, set, pos, nat_abs, sym, refl, ap, ◌∙◌, ⊎_elim, arith, w8, w64, Fits, to_z, of_z, rules}
 use Rattle.std.proofs.lemmas.List.{get_or-replicate, take_all, length-set}
 use Rattle.std.proofs.lemmas.Bool.{cases_eq, cond-true, cond-false, eq-eqb, ne_eqb}
 use Rattle.slots.specs.Items.{items}
 use Rattle.slots.proofs.Every.{every_read}
 use Rattle.slots.proofs.Items.{items_fit}
 use Rattle.slots.proofs.Places.{set_at}
-use Rattle.terms.specs.declared.lot.Lot.{Lot}
 use Rattle.terms.proofs.Signs.{back, nat_abs_add}
-use Rattle.lots.specs.declared.holding.Holding.{Holding}
 use Rattle.lots.specs.Worth.{worth, worth_of, units_of, holding_of, no_holding, Plus}
 use Rattle.lots.specs.Lots.{lawful_lot}
 use Rattle.lots.proofs.Lawful.{lawful}

@@ -1,4 +1,4 @@
-use Rattle.std.proofs.Common.{◌≡◌, ℤ, pos, ap, ◌∙◌, arith, w64, SFits}
+use Rattle.std.proofs.Common.{ap, ◌∙◌, arith, w64}
 use Rattle.terms.specs.Closing.{settlement}
 use Rattle.terms.proofs.Signs.{back}
 use Rattle.lots.specs.Worth.{worth}

@@ -1,9 +1,9 @@
-use Rattle.std.proofs.Common.{◌≡◌, ℕ, ◌+◌, ◌*◌, ◌<◌, ◌≤◌, cond, eqb, length, get_or, take, sym, refl, ap, ◌∙◌, arith, w8, Fits, rules}
+use Rattle.std.proofs.Common.{ℕ, ◌+◌, ◌<◌, ◌≤◌, cond, eqb, length, take, sym, refl, ap, ◌∙◌, arith, w8, Fits, rules}
 use Rattle.std.proofs.lemmas.List.{get_or-replicate, take_all, length-set}
 use Rattle.slots.specs.Items.{items}
 use Rattle.slots.proofs.Every.{every_read}
 use Rattle.slots.proofs.Items.{items_fit}
-use Rattle.orders.specs.Margins.{order_margin, margin_of}
+use Rattle.orders.specs.Margins.{margin_of}
 use Rattle.orders.specs.Orders.{lawful_order}
 use Rattle.orders.proofs.Sums.{margin_more, added_at, cond_small}
 use Rattle.orders.proofs.margins.margins.Goals as goal
@@ -18,8 +18,8 @@ margin-requires c =
     let h : c.loop-i.i < length os = omega (arith, c.len-i-end.ensures) in
     record { mark = omega (arith, c.requires.mark); order = every_read lawful_order os c.loop-i.i c.get-o.result c.requires.orders h c.get-o.ensures }
 
-pub overflow-add-sums : goal.overflow-add-sums
-overflow-add-sums c =
+pub overflow_add-sums : goal.overflow_add-sums
+overflow_add-sums c =
     let f : Fits w8 c.get-o.result.account = search rules in
     let few : c.loop-i.i ≤ 4096 = omega (arith, items_fit c.args.orders.now, c.requires.few, c.len-i-end.ensures) in
     record { fits = omega (arith, c.loop-i.invariant.2 c.get-o.result.account f.fits, c.margin.ensures.bound) }

@@ -1,4 +1,4 @@
-use Rattle.std.proofs.Common.{◌≡◌, ℕ, ◌+◌, ◌<◌, ◌≤◌, ◌&&◌, eqb, length, take, sym, refl, ap, ◌∙◌, arith}
+use Rattle.std.proofs.Common.{ℕ, ◌+◌, ◌<◌, ◌≤◌, ◌&&◌, eqb, length, take, sym, refl, ap, ◌∙◌, arith}
 use Rattle.std.proofs.lemmas.List.{take_all}
 use Rattle.slots.specs.Items.{items}
 use Rattle.slots.proofs.Every.{every_read}
@@ -14,8 +14,8 @@ pub loop-i-init : goal.loop-i-init
 unfolding ordered_of
 loop-i-init c = (refl, omega arith)
 
-pub overflow-add-sum : goal.overflow-add-sum
-overflow-add-sum c =
+pub overflow_add-sum : goal.overflow_add-sum
+overflow_add-sum c =
     let os = items c.args.orders.now in
     let o = c.get.result in
     let h : c.loop-i.i < length os = omega (arith, c.len-i-end.ensures) in

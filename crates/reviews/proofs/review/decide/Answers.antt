@@ -1,4 +1,4 @@
-use Rattle.std.proofs.Common.{◌≡◌, false, sym, ap, ◌∙◌}
+use Rattle.std.proofs.Common.{false, sym, ap, ◌∙◌}
 use Rattle.accounts.specs.declared.state.AccountState.{AccountState}
 use Rattle.accounts.specs.Review.{decide}
 use Rattle.accounts.specs.States.{state_of}

@@ -1,9 +1,8 @@
-use Rattle.std.proofs.Common.{◌≡◌, ℕ, ◌<◌, Bool, true, not, get_or, pos, sym, ap, ◌∙◌}
+use Rattle.std.proofs.Common.{◌≡◌, ℕ, ◌<◌, not, get_or, pos, ap, ◌∙◌}
 use Rattle.slots.specs.Items.{items}
 use Rattle.lots.specs.declared.holding.Holding.{Holding}
 use Rattle.lots.specs.Worth.{no_holding, holding_of}
 use Rattle.orders.specs.declared.order.Order.{Order}
-use Rattle.orders.specs.Margins.{margin_of}
 use Rattle.orders.specs.Orders.{lawful_order, spared}
 use Rattle.accounts.specs.declared.standing.Decision.{Decision}
 use Rattle.reviews.specs.Reviews.{decided_by, decided}
@@ -26,11 +25,11 @@ returns g c =
     let one : (a : ℕ) → a < 256 → by (get_or held a no_holding) (get_or ordered a 0) a ≡ due a =
     λ a h. ap (λ (x : Holding). by x (get_or ordered a 0) a) (c.holdings-held.ensures.value a h) ∙ ap (λ (n : ℕ). by (holding_of a (pos mark) ls) n a) (c.margins-ordered.ensures.value a h)
     in
-    let marked = c.decide-all-marked.result in
+    let marked = c.decide_all-marked.result in
     record {
-      states = λ a h. c.decide-all-marked.ensures.states a h ∙ ap (λ (d : Decision). d.state) (one a h);
+      states = λ a h. c.decide_all-marked.ensures.states a h ∙ ap (λ (d : Decision). d.state) (one a h);
       orders = c.void.ensures.items
-          ∙ kept_alike lawful_order (spared marked) (λ (o : Order). not (due o.account).void) (λ o s. ap not (c.decide-all-marked.ensures.voids o.account (owned o s) ∙ ap (λ (d : Decision). d.void) (one o.account (owned o s)))) os c.requires.orders;
+          ∙ kept_alike lawful_order (spared marked) (λ (o : Order). not (due o.account).void) (λ o s. ap not (c.decide_all-marked.ensures.voids o.account (owned o s) ∙ ap (λ (d : Decision). d.void) (one o.account (owned o s)))) os c.requires.orders;
       free = c.void.ensures.free;
       capacity = c.void.ensures.capacity;
     }

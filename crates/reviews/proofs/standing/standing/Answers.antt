@@ -10,8 +10,8 @@ unfolding requirement
 small p price q hp hx hq =
     ceiling_at_most (price * q * p) 10000 184467440651196171 (omega arith) (omega (arith, mul-le (price * q) p 18446744065119617025 100 (mul-le price q 4294967295 4294967295 hx hq) hp))
 
-pub overflow-add-result : goal.overflow-add-result
-overflow-add-result g c =
+pub overflow_add-result : goal.overflow_add-result
+overflow_add-result g c =
     let set = c.args.settings.now in
     let q = c.args.holding.units in
     let f : Fits w32 q = search rules in

@@ -18,8 +18,8 @@ module _ (q m p : ℕ) (hq : q ≤ 50000) (hm : m ≤ 100000000) (hp : p ≤ 100
       let d : p < 2 ^ 63 = omega arith in
       rw (to_z_pos w64 q a, to_z_pos w64 m b, to_z_pos w64 p d, back w64 (pos m -ℤ pos p) (omega (arith, near)))
 
-pub overflow-mul-result : goal.overflow-mul-result
-overflow-mul-result c =
+pub overflow_mul-result : goal.overflow_mul-result
+overflow_mul-result c =
     let q = c.args.units in
     let m = c.args.closing in
     let p = c.args.opening in

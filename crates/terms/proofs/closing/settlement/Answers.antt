@@ -1,4 +1,4 @@
-use Rattle.std.proofs.Common.{◌≡◌, ◌*◌, ◌≤◌, ℤ, pos, ◌-ℤ◌, ◌*ℤ◌, nat_abs, ap, ◌∙◌, arith, w64, to_z, of_z}
+use Rattle.std.proofs.Common.{◌≡◌, ◌≤◌, ℤ, pos, ◌-ℤ◌, ◌*ℤ◌, nat_abs, ap, ◌∙◌, arith, w64, to_z, of_z}
 use Rattle.terms.specs.Closing.{sided, settlement}
 use Rattle.terms.proofs.Signs.{back, nat_abs_mul, nat_abs_sub}
 use Rattle.terms.proofs.closing.settlement.Goals as goal

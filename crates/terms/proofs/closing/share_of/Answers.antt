@@ -1,4 +1,4 @@
-use Rattle.std.proofs.Common.{◌≡◌, ℕ, ◌*◌, ◌/◌, ◌^◌, ◌<◌, ◌≤◌, ℤ, pos, ◌*ℤ◌, nat_abs, ap, ◌∙◌, arith, w64, SFits, to_z, of_z}
+use Rattle.std.proofs.Common.{◌≡◌, ℕ, ◌^◌, ◌<◌, ◌≤◌, ℤ, pos, ◌*ℤ◌, nat_abs, arith, w64, SFits, to_z, of_z}
 use lib.Signed.{quot_z}
 use mir.Syntax.{w128}
 use Rattle.std.proofs.lemmas.Nat.{mul-le}
@@ -31,22 +31,22 @@ module _ (f : ℤ) (c q : ℕ) (fits : SFits w64 f) (hc : c < 2 ^ 32) (hq : q < 
   wide : SFits w128 (share f c q)
   wide = sfits_by w128 (share f c q) (omega (arith, share_near f c q part, size))
 
-pub overflow-mul-product : goal.overflow-mul-product
-overflow-mul-product c =
+pub overflow_mul-product : goal.overflow_mul-product
+overflow_mul-product c =
     let f = c.args.charge in
     let x = c.args.closed in
     let q = c.args.quantity in
     rw (factors f x q c.ranges.charge (omega arith) (omega arith) c.requires.part) (sfits_by w128 (f *ℤ pos x) (product f x q c.ranges.charge (omega arith) (omega arith) c.requires.part))
 
-pub nonzero-div-result : goal.nonzero-div-result
-nonzero-div-result c =
+pub nonzero_div-result : goal.nonzero_div-result
+nonzero_div-result c =
     let f = c.args.charge in
     let x = c.args.closed in
     let q = c.args.quantity in
     (omega (arith, c.requires.some), rw (quotient f x q c.ranges.charge (omega arith) (omega arith) c.requires.part) (wide f x q c.ranges.charge (omega arith) (omega arith) c.requires.part))
 
-pub overflow-cast-result-2 : goal.overflow-cast-result-2
-overflow-cast-result-2 c =
+pub overflow_cast-result-2 : goal.overflow_cast-result-2
+overflow_cast-result-2 c =
     let f = c.args.charge in
     let x = c.args.closed in
     let q = c.args.quantity in

@@ -1,4 +1,4 @@
-use Rattle.std.proofs.Common.{◌≡◌, ℕ, ◌<◌, ℤ, pos, ◌+ℤ◌, ◌-ℤ◌, nat_abs, sym, ap, ◌∙◌, arith, w64, SFits, to_z, of_z}
+use Rattle.std.proofs.Common.{◌≡◌, ℕ, ◌<◌, ℤ, ◌-ℤ◌, ap, ◌∙◌, arith, w64, SFits, to_z, of_z}
 use Rattle.std.proofs.lemmas.Int.{ints, to_z-of_z}
 use Rattle.terms.specs.Closing.{share}
 use Rattle.terms.proofs.Shares.{share_near, rest_near, rest_fits, share_bounded, rest_bounded, share_all}
@@ -8,13 +8,13 @@ use Rattle.terms.proofs.closing.split_charge.Goals as goal
 told : (f s : ℤ) (x q : ℕ) → SFits w64 f → SFits w64 s → s ≡ share (to_z w64 (of_z w64 f)) x q → to_z w64 (of_z w64 s) ≡ share f x q
 told f s x q h k e = to_z-of_z w64 s k ∙ e ∙ ap (λ (z : ℤ). share z x q) (to_z-of_z w64 f h)
 
-pub overflow-sub-rest : goal.overflow-sub-rest
-overflow-sub-rest c =
+pub overflow_sub-rest : goal.overflow_sub-rest
+overflow_sub-rest c =
     let f = c.args.charge in
     let x = c.args.closed in
     let q = c.args.quantity in
-    let s = c.share-of-share.result in
-    let one = told f s x q c.ranges.charge (record { sfits = c.share-of-share.type-inv }) c.share-of-share.ensures in
+    let s = c.share_of-share.result in
+    let one = told f s x q c.ranges.charge (record { sfits = c.share_of-share.type_inv }) c.share_of-share.ensures in
     rw (to_z-of_z w64 f c.ranges.charge, one) (rest_fits f x q c.requires.part c.ranges.charge)
 
 pub returns : goal.returns
@@ -22,8 +22,8 @@ returns c =
     let f = c.args.charge in
     let x = c.args.closed in
     let q = c.args.quantity in
-    let s = c.share-of-share.result in
-    let one = told f s x q c.ranges.charge (record { sfits = c.share-of-share.type-inv }) c.share-of-share.ensures in
+    let s = c.share_of-share.result in
+    let one = told f s x q c.ranges.charge (record { sfits = c.share_of-share.type_inv }) c.share_of-share.ensures in
     let two : to_z w64 (of_z w64 (to_z w64 (of_z w64 f) -ℤ to_z w64 (of_z w64 s))) ≡ f -ℤ share f x q =
     rw (to_z-of_z w64 f c.ranges.charge, one, to_z-of_z w64 (f -ℤ share f x q) (rest_fits f x q c.requires.part c.ranges.charge)) in
     record {

@@ -36,7 +36,7 @@ module _ (e x : ℤ) (m : ℕ) (fe : SFits w64 e) (fx : SFits w128 x) (told : x 
       ∙ ap (λ (k : ℕ). ceiling k 100) (ap nat_abs missing ∙ all_above (pos (100 * m) -ℤ e) n)
 
 pub returns-then-missing-le0 : goal.returns-then-missing-le0
-returns-then-missing-le0 c = covered c.args.equity c.missing-missing.result c.args.margin c.ranges.equity (record { sfits = c.missing-missing.type-inv }) c.missing-missing.ensures c.if-missing-le0.true
+returns-then-missing-le0 c = covered c.args.equity c.missing-missing.result c.args.margin c.ranges.equity (record { sfits = c.missing-missing.type_inv }) c.missing-missing.ensures c.if-missing-le0.true
 
 pub returns : goal.returns
-returns c = called c.args.equity c.missing-missing.result c.args.margin c.ranges.equity (record { sfits = c.missing-missing.type-inv }) c.missing-missing.ensures c.div-ceil.result c.if-missing-le0.false c.div-ceil.ensures
+returns c = called c.args.equity c.missing-missing.result c.args.margin c.ranges.equity (record { sfits = c.missing-missing.type_inv }) c.missing-missing.ensures c.div_ceil.result c.if-missing-le0.false c.div_ceil.ensures

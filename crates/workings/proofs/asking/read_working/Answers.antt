@@ -3,4 +3,4 @@ use Rattle.workings.proofs.asking.read_working.Goals as goal
 
 pub returns : goal.returns
 returns c =
-    asked c.args.words.now c.in-ok-topic.topic c.read-figures.result c.in-ok-topic.ensures c.read-figures.ensures
+    asked c.args.words.now c.in_ok-topic.topic c.read_figures.result c.in_ok-topic.ensures c.read_figures.ensures

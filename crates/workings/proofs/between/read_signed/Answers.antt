@@ -7,4 +7,4 @@ pub returns-in-None : goal.returns-in-None
 returns-in-None c =
     let text = c.args.text.now in
     let bare = strip_prefix_char 45 text None c.in-None.ensures.cases (lit< tt) in
-    record { value = c.read-above.ensures.value ∙ signed_bare c.args.max text bare; within = c.read-above.ensures.within }
+    record { value = c.read_above.ensures.value ∙ signed_bare c.args.max text bare; within = c.read_above.ensures.within }

@@ -1,4 +1,4 @@
 use Rattle.workings.proofs.money.+write_groups.Given as goal
 
-abbrev pub decreases-write-groups : goal.decreases-write-groups
-decreases-write-groups g l = l.n
+abbrev pub decreases-write_groups : goal.decreases-write_groups
+decreases-write_groups g l = l.n

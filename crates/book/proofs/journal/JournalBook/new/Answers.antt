@@ -1,14 +1,14 @@
-use Rattle.std.proofs.Common.{◌≡◌, ℕ, ◌-◌, min, List, [], length, pos, ap, ◌∙◌, arith}
+use Rattle.std.proofs.Common.{◌≡◌, ◌-◌, min, List, length, ap, ◌∙◌, arith}
 use Rattle.slots.specs.Every.{every}
 use Rattle.slots.specs.Items.{capacity}
 use Rattle.book.specs.declared.entry.Entry.{Entry}
-use Rattle.book.specs.Meaning.{Meaning, fresh}
+use Rattle.book.specs.Meaning.{fresh}
 use Rattle.book.specs.Entries.{proper, posted, journaled}
 use Rattle.book.proofs.journal.JournalBook.new.Goals as goal
 
-pub invariant-of-result : goal.invariant-of-result
+pub invariant_of-result : goal.invariant_of-result
 unfolding every
-invariant-of-result c = (omega (arith, c.new-entries.ensures.capacity), (ap proper c.new-entries.ensures.items, tt))
+invariant_of-result c = record { few = omega (arith, c.new-entries.ensures.capacity); lawful = ap proper c.new-entries.ensures.items }
 
 pub returns : goal.returns
 unfolding posted

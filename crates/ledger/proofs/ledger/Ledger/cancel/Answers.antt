@@ -21,14 +21,14 @@ use Rattle.ledger.proofs.ledger.Ledger.cancel.Goals as goal
 asked : (o : Option Order) (b : Bool) → is_plain o ≡ b → first (not (is_plain o) gives OrderNotHeld ∷ []) ≡ first (not b gives OrderNotHeld ∷ [])
 asked o b e = ap (λ (x : Bool). first (not x gives OrderNotHeld ∷ [])) e
 
-pub returns-in-default : goal.returns-in-default
-returns-in-default g c =
+pub returns-in_default : goal.returns-in_default
+returns-in_default g c =
     let l = c.args.self.now in
     let b = c.args.book.now in
     let m = g.B.Book.meaning b in
     let os = items l.orders in
     let n = c.args.number in
-    let none = not_found n 0 os (sym c.find.ensures ∙ c.in-default.is) in
+    let none = not_found n 0 os (sym c.find.ensures ∙ c.in_default.is) in
     refused 0 (cancel_call n (view l) m) OrderNotHeld _ l b b m m (asked (held n os) false (ap is_plain none)) refl refl refl
 
 pub get-requires : goal.get-requires
@@ -47,18 +47,18 @@ returns-then-get g c =
     let cut = ap is_plain (h.holds c.get.result c.get.ensures) ∙ ap not c.if-get.true in
     refused 0 (cancel_call n (view l) m) OrderNotHeld _ l b b m m (asked (held n os) false cut) refl refl refl
 
-pub take-out-requires : goal.take-out-requires
-take-out-requires g c =
+pub take_out-requires : goal.take_out-requires
+take_out-requires g c =
     let l = c.args.self.now in
     (held_at c.args.number c.in-Some.place 0 l.issued (items l.orders) (sym c.find.ensures ∙ c.in-Some.is) l.numbered).inside
 
-pub invariant-of-self : goal.invariant-of-self
-invariant-of-self g c =
+pub invariant_of-self : goal.invariant_of-self
+invariant_of-self g c =
     let l = c.args.self.now in
     let os = items l.orders in
     let n = c.args.number in
     let h = held_at n c.in-Some.place 0 l.issued os (sym c.find.ensures ∙ c.in-Some.is) l.numbered in
-    let e = c.take-out.ensures.items ∙ h.left in (
+    let e = c.take_out.ensures.items ∙ h.left in (
       l.timely,
       (
         l.spotted,
@@ -67,7 +67,7 @@ invariant-of-self g c =
           (
             l.fewlots,
             (
-              omega (arith, c.take-out.ensures.capacity, l.feworders),
+              omega (arith, c.take_out.ensures.capacity, l.feworders),
               (
                 l.lotslawful,
                 (
@@ -94,12 +94,12 @@ returns g c =
     let i = c.in-Some.place in
     let h = held_at n i 0 l.issued os (sym c.find.ensures ∙ c.in-Some.is) l.numbered in
     let plain = ap is_plain (h.holds c.get.result c.get.ensures) ∙ ap not c.if-get.false in
-    let state = c.review.ensures.view ∙ ap (reviewed m) (alike (view l) refl (c.take-out.ensures.items ∙ h.left) c.take-out.ensures.capacity) in
-    let after = items c.take-out.new.self in
-    let shorter = ap length c.take-out.ensures.items in
+    let state = c.review.ensures.view ∙ ap (reviewed m) (alike (view l) refl (c.take_out.ensures.items ∙ h.left) c.take_out.ensures.capacity) in
+    let after = items c.take_out.new.self in
+    let shorter = ap length c.take_out.ensures.items in
     let one = length-remove os i h.inside in
     let few : length after ≤ 0 + length os = omega (arith, shorter, one) in
     let past : 0 + length os - length after ≡ 1 = omega (arith, shorter, one) in
-    let slots = ap (λ (j : ℕ). drop j (free c.take-out.new.self)) past ∙ c.take-out.ensures.free in
+    let slots = ap (λ (j : ℕ). drop j (free c.take_out.new.self)) past ∙ c.take_out.ensures.free in
     taken 0 (cancel_call n (view l) m) _ l c.review.new.self b b m m (asked (held n os) true plain) refl state refl
     (untouched_then 0 l _ c.review.new.self c.review.ensures.slots (record { lots = refl; few = few; orders = slots }))

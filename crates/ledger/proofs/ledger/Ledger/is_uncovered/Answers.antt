@@ -20,7 +20,7 @@ returns g c =
     let more = c.margin_more.result in
     let f : SFits w64 st.equity = search rules in
     let is = sym (c.margin_more.ensures.value ∙ ap (λ (k : ℕ). order_margin l.settings.margin_percent k o) c.mark.ensures.value) in
-    c.is-short-of.ensures ∙ ap (λ (z : ℤ). short_of z (st.margin + more)) (to_z-of_z w64 st.equity f)
+    c.is_short_of.ensures ∙ ap (λ (z : ℤ). short_of z (st.margin + more)) (to_z-of_z w64 st.equity f)
     ∙ ap (λ (x : Standing). short_of x.equity (x.margin + more)) c.standing-standing.ensures.value
     ∙ asked (eqb o.account 2) _ (ne_eqb o.account 2 c.if-order-eq-PROPRIETARY.false)
     ∙ sym (uncovered_is o (view l) m more is)

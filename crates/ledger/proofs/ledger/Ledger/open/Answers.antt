@@ -8,9 +8,9 @@ use Rattle.orders.specs.Orders.{lawful_orders}
 use Rattle.orders.specs.Numbers.{rising}
 use Rattle.ledger.proofs.ledger.Ledger.open.Goals as goal
 
-pub invariant-of-result : goal.invariant-of-result
+pub invariant_of-result : goal.invariant_of-result
 unfolding every rising
-invariant-of-result c = (
+invariant_of-result c = (
   omega arith,
   (
     refl,

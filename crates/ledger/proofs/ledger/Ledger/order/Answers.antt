@@ -22,8 +22,8 @@ use Rattle.ledger.specs.View.{view}
 use Rattle.ledger.proofs.Calls.{refused, taken, untouched_then}
 use Rattle.ledger.proofs.ledger.Ledger.order.Goals as goal
 
-pub returns-in-err-side : goal.returns-in-err-side
-returns-in-err-side g c =
+pub returns-in_err-side : goal.returns-in_err-side
+returns-in_err-side g c =
     let l = c.args.self.now in
     let b = c.args.book.now in
     let m = g.B.Book.meaning b in
@@ -32,12 +32,12 @@ returns-in-err-side g c =
     let price = c.args.price in
     let q = c.args.quantity in
     let forms = order_forms a byte price q in
-    let r = err_from_is_err_and c.from-residual.result c.from-residual.ensures.1 in
-    let why = told_err (first forms) (side-of byte) _ (sym c.admit-form.ensures ∙ c.in-err-side.was) in
-    refused 1 (order_call a byte price q (view l) m) _ c.from-residual.result l b b m m (first_before forms (order_sentences (next_order a byte price q (view l)) (view l) m) _ why) (r.1 ∙ ap Err r.2) refl refl
+    let r = err_from_is_err_and c.from_residual.result c.from_residual.ensures.1 in
+    let why = told_err (first forms) (side-of byte) _ (sym c.admit_form.ensures ∙ c.in_err-side.was) in
+    refused 1 (order_call a byte price q (view l) m) _ c.from_residual.result l b b m m (first_before forms (order_sentences (next_order a byte price q (view l)) (view l) m) _ why) (r.1 ∙ ap Err r.2) refl refl
 
-pub returns-in-err-admit-order : goal.returns-in-err-admit-order
-returns-in-err-admit-order g c =
+pub returns-in_err-admit_order : goal.returns-in_err-admit_order
+returns-in_err-admit_order g c =
     let l = c.args.self.now in
     let b = c.args.book.now in
     let m = g.B.Book.meaning b in
@@ -47,19 +47,19 @@ returns-in-err-admit-order g c =
     let q = c.args.quantity in
     let forms = order_forms a byte price q in
     let n = l.issued + 1 in
-    let form = told_ok (first forms) (side-of byte) _ (sym c.admit-form.ensures ∙ c.in-ok-side.was) in
+    let form = told_ok (first forms) (side-of byte) _ (sym c.admit_form.ensures ∙ c.in_ok-side.was) in
     let asked = order_sentences (plain_order n a (side-of byte) price q) (view l) m in
     let same = ap (λ (x : Side). first (order_sentences (plain_order n a x price q) (view l) m)) form.1 in
-    let why = sym same ∙ terms.refused (first (order_sentences (plain_order n a c.in-ok-side.side price q) (view l) m)) _ (sym (c.admit-order.ensures n) ∙ c.in-err-admit-order.was) in
-    let r = err_from_is_err_and c.from-residual-in-err-admit-order.result c.from-residual-in-err-admit-order.ensures.1 in
-    refused 1 (order_call a byte price q (view l) m) _ c.from-residual-in-err-admit-order.result l b b m m (first_behind forms asked form.0 ∙ why) (r.1 ∙ ap Err r.2) refl refl
+    let why = sym same ∙ terms.refused (first (order_sentences (plain_order n a c.in_ok-side.side price q) (view l) m)) _ (sym (c.admit_order.ensures n) ∙ c.in_err-admit_order.was) in
+    let r = err_from_is_err_and c.from_residual-in_err-admit_order.result c.from_residual-in_err-admit_order.ensures.1 in
+    refused 1 (order_call a byte price q (view l) m) _ c.from_residual-in_err-admit_order.result l b b m m (first_behind forms asked form.0 ∙ why) (r.1 ∙ ap Err r.2) refl refl
 
-pub overflow-add-number : goal.overflow-add-number
-overflow-add-number g c =
+pub overflow_add-number : goal.overflow_add-number
+overflow_add-number g c =
     let l = c.args.self.now in
     let m = g.B.Book.meaning c.args.book.now in
-    let o = plain_order 0 c.args.account c.in-ok-side.side c.args.price c.args.quantity in
-    let none = terms.taken (first (order_sentences o (view l) m)) (sym (c.admit-order.ensures 0) ∙ c.in-ok-admit-order.was) in
+    let o = plain_order 0 c.args.account c.in_ok-side.side c.args.price c.args.quantity in
+    let none = terms.taken (first (order_sentences o (view l) m)) (sym (c.admit_order.ensures 0) ∙ c.in_ok-admit_order.was) in
     let room = admitted_room o (view l) m none in
     let f : l.issued < 4294967296 = search rules in
     record { fits = omega (arith, room.1, f) }
@@ -68,19 +68,19 @@ overflow-add-number g c =
 appended : (os : List Order) (room : ℕ) (o : Order) (r : Result (Unit {0}) Order) → length os < room → r ≡ cond (ltb (length os) room) (Ok tt) (Err o) → is_ok r ≡ true
 appended os room o r h v = ap is_ok (v ∙ cond-true (ltb (length os) room) (Ok tt) (Err o) (lt-ltb (length os) room h))
 
-pub invariant-of-self : goal.invariant-of-self
-invariant-of-self g c =
+pub invariant_of-self : goal.invariant_of-self
+invariant_of-self g c =
     let l = c.args.self.now in
     let s = view l in
     let m = g.B.Book.meaning c.args.book.now in
     let os = items l.orders in
     let n = l.issued + 1 in
-    let o = plain_order n c.args.account c.in-ok-side.side c.args.price c.args.quantity in
-    let form = told_ok (first (order_forms c.args.account c.args.side c.args.price c.args.quantity)) (side-of c.args.side) _ (sym c.admit-form.ensures ∙ c.in-ok-side.was) in
-    let none = terms.taken (first (order_sentences o s m)) (sym (c.admit-order.ensures n) ∙ c.in-ok-admit-order.was) in
+    let o = plain_order n c.args.account c.in_ok-side.side c.args.price c.args.quantity in
+    let form = told_ok (first (order_forms c.args.account c.args.side c.args.price c.args.quantity)) (side-of c.args.side) _ (sym c.admit_form.ensures ∙ c.in_ok-side.was) in
+    let none = terms.taken (first (order_sentences o s m)) (sym (c.admit_order.ensures n) ∙ c.in_ok-admit_order.was) in
     let had = appended os (capacity l.orders) o c.append.result (admitted_room o s m none).0 c.append.ensures.value in
     let more = c.append.ensures.items ∙ cond-true (is_ok c.append.result) (os ++ o ∷ []) os had in
-    let fine = form_lawful n c.args.account c.args.side c.args.price c.args.quantity c.in-ok-side.side (omega (arith, c.ranges.account.fits)) form.0 in (
+    let fine = form_lawful n c.args.account c.args.side c.args.price c.args.quantity c.in_ok-side.side (omega (arith, c.ranges.account.fits)) form.0 in (
       l.timely,
       (
         l.spotted,
@@ -118,10 +118,10 @@ returns g c =
     let q = c.args.quantity in
     let os = items l.orders in
     let n = l.issued + 1 in
-    let o = plain_order n a c.in-ok-side.side price q in
+    let o = plain_order n a c.in_ok-side.side price q in
     let forms = order_forms a byte price q in
-    let form = told_ok (first forms) (side-of byte) _ (sym c.admit-form.ensures ∙ c.in-ok-side.was) in
-    let none = terms.taken (first (order_sentences o s m)) (sym (c.admit-order.ensures n) ∙ c.in-ok-admit-order.was) in
+    let form = told_ok (first forms) (side-of byte) _ (sym c.admit_form.ensures ∙ c.in_ok-side.was) in
+    let none = terms.taken (first (order_sentences o s m)) (sym (c.admit_order.ensures n) ∙ c.in_ok-admit_order.was) in
     let is : o ≡ next_order a byte price q s = ap (λ (x : Side). plain_order n a x price q) form.1 in
     let why = first_behind forms (order_sentences (next_order a byte price q s) s m) form.0 ∙ sym (ap (λ (x : Order). first (order_sentences x s m)) is) ∙ none in
     let had = appended os (capacity l.orders) o c.append.result (admitted_room o s m none).0 c.append.ensures.value in

@@ -8,13 +8,13 @@ use Rattle.rules.proofs.Reviewing.{is_reviewed, fewer_left, lawful_left, rising_
 use Rattle.ledger.specs.View.{view}
 use Rattle.ledger.proofs.ledger.Ledger.review.Goals as goal
 
-pub invariant-of-self : goal.invariant-of-self
-invariant-of-self g c =
+pub invariant_of-self : goal.invariant_of-self
+invariant_of-self g c =
     let l = c.args.self.now in
     let s = view l in
     let m = g.B.Book.meaning c.args.book.now in
     let p = l.settings.margin_percent in
-    let spot = c.spot-or-nought-spot.result in
+    let spot = c.spot_or_nought-spot.result in
     let mark = c.mark-mark.result in
     let e = c.review.ensures.orders in (
       l.timely,
@@ -48,10 +48,10 @@ returns g c =
     let m = g.B.Book.meaning c.args.book.now in
     let before = length (items l.orders) in
     let after = length (items c.review.new.orders) in
-    let few : after ≤ 0 + before = omega (arith, ap length c.review.ensures.orders, fewer_left m l.settings.margin_percent c.spot-or-nought-spot.result c.mark-mark.result (view l)) in
+    let few : after ≤ 0 + before = omega (arith, ap length c.review.ensures.orders, fewer_left m l.settings.margin_percent c.spot_or_nought-spot.result c.mark-mark.result (view l)) in
     let none : 0 + before - after ≡ before - after = omega arith in
     record {
-      view = is_reviewed m (view l) c.spot-or-nought-spot.result c.mark-mark.result c.spot-or-nought-spot.ensures.value c.mark-mark.ensures.value
+      view = is_reviewed m (view l) c.spot_or_nought-spot.result c.mark-mark.result c.spot_or_nought-spot.ensures.value c.mark-mark.ensures.value
           (state_of c.review.new.accounts) (items c.review.new.orders) (capacity c.review.new.orders) c.review.ensures.states c.review.ensures.orders c.review.ensures.capacity;
       slots = record { lots = refl; few = few; orders = ap (λ (j : ℕ). drop j (free c.review.new.orders)) none ∙ c.review.ensures.free };
     }

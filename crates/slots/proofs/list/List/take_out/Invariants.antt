@@ -1,4 +1,4 @@
-use Rattle.std.proofs.Common.{◌≡◌, suc, ◌+◌, ◌<◌, ◌≤◌, length, drop}
+use Rattle.std.proofs.Common.{◌≡◌, suc, ◌+◌, ◌<◌, length, drop}
 use lib.Seq.{paste}
 use Rattle.slots.specs.Items.{used}
 use Rattle.slots.proofs.list.List.take_out.Given as goal

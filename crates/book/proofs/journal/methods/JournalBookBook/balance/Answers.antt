@@ -1,11 +1,11 @@
-use Rattle.std.proofs.Common.{◌≡◌, ℕ, ◌+◌, ◌*◌, ◌^◌, ◌<◌, ◌≤◌, List, length, take, ℤ, ◌+ℤ◌, nat_abs, sym, refl, ap, ◌∙◌, arith, w64, to_z, of_z}
+use Rattle.std.proofs.Common.{◌≡◌, ◌+◌, ◌*◌, ◌<◌, ◌≤◌, List, length, take, ℤ, ◌+ℤ◌, nat_abs, sym, refl, ap, ◌∙◌, arith, w64}
 use Rattle.std.proofs.lemmas.List.{take_all}
 use Rattle.slots.specs.Items.{items}
 use Rattle.slots.proofs.Every.{every_read}
 use Rattle.slots.proofs.Items.{items_fit}
 use Rattle.terms.proofs.Signs.{back, summed, nat_abs_add}
 use Rattle.book.specs.declared.entry.Entry.{Entry}
-use Rattle.book.specs.Entries.{Proper, proper_entry, posted}
+use Rattle.book.specs.Entries.{proper_entry, posted}
 use Rattle.book.proofs.Posting.{proper_fact, posted_more, lawful_journal}
 use Rattle.book.proofs.journal.methods.JournalBookBook.balance.Goals as goal
 

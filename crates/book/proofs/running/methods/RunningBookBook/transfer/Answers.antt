@@ -1,7 +1,6 @@
 use Rattle.std.proofs.Common.{◌≡◌, ℕ, ◌+◌, ◌-◌, ◌^◌, ◌<◌, List, length, ℤ, pos, ◌-ℤ◌, neg_ℤ, sym, ap, ◌∙◌, arith, w64, to_z, of_z, rules}
 use Rattle.std.proofs.lemmas.Int.{to_z_pos}
 use Rattle.std.proofs.lemmas.Bool.{false≢true}
-use Rattle.terms.specs.Refusals.{answer}
 use Rattle.terms.proofs.Signs.{negated}
 use Rattle.book.specs.Meaning.{Lawful, entered}
 use Rattle.book.specs.Running.{running_meaning}
@@ -21,8 +20,8 @@ means bs bs₁ bs₂ made left p q n a len hp hq e f =
     let h : n < 2 ^ 63 = omega (arith, a.small) in
     ap (λ (l : List ℤ). kept l (made + 1) (left - 1)) (balances bs bs₁ bs₂ p q n h e f) ∙ paid_means bs p q n (omega arith) (omega arith) made left
 
-pub invariant-of-self : goal.invariant-of-self
-invariant-of-self c =
+pub invariant_of-self : goal.invariant_of-self
+invariant_of-self c =
     let b = c.args.self.now in
     let p = c.args.payer in
     let q = c.args.payee in
@@ -30,10 +29,10 @@ invariant-of-self c =
     let hp = c.ranges.payer.fits in
     let hq = c.ranges.payee.fits in
     let len : length b.balances ≡ 256 = search rules in
-    let a = admitted b.left p q n (sym c.admit.ensures ∙ c.in-ok-admit.was) in
+    let a = admitted b.left p q n (sym c.admit.ensures ∙ c.in_ok-admit.was) in
     let m = means b.balances c.add.new.balances c.add-2.new.balances b.made b.left p q n a len hp hq c.add.ensures c.add-2.ensures in
     let l : Lawful (kept c.add-2.new.balances (b.made + 1) (b.left - 1)) = rw m (lawful_entered (running_meaning b) p q n (lawful_running b) hp hq a) in
-    (l.few, (l.even, (l.near, tt)))
+    record { few = l.few; even = l.even; near = l.near }
 
 pub returns : goal.returns
 returns c =
@@ -44,7 +43,7 @@ returns c =
     let hp = c.ranges.payer.fits in
     let hq = c.ranges.payee.fits in
     let len : length b.balances ≡ 256 = search rules in
-    let ok = sym c.admit.ensures ∙ c.in-ok-admit.was in
+    let ok = sym c.admit.ensures ∙ c.in_ok-admit.was in
     let a = admitted b.left p q n ok in
     let m = means b.balances c.add.new.balances c.add-2.new.balances b.made b.left p q n a len hp hq c.add.ensures c.add-2.ensures in
     record {
