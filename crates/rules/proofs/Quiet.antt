@@ -1,7 +1,7 @@
 -- A ledger that stands as a review leaves it, with fewer orders: a review still changes nothing.
 use Rattle.std.proofs.Common.{◌≡◌, ℕ, ◌+◌, ◌*◌, ◌≤◌, Bool, true, false, cond, not, ◌&&◌, ◌||◌, eqb, ltb, List, [], ◌∷◌, ℤ, pos, filter, sym, refl, ap, ◌∙◌, subst, arith}
 use lib.Signed.{lt_z}
-use Rattle.std.specs.List.{AllByRecursion as All}
+use Rattle.std.specs.List.{AllByRecursion}
 use Rattle.std.proofs.ByRecursion.{All-weaker, all_kept_by, kept_by_passes}
 use Rattle.std.proofs.lemmas.Int.{ints}
 use Rattle.std.proofs.lemmas.Bool.{cond_both, cond-true, true≢false, not-true}
@@ -28,7 +28,7 @@ margin_fewer keeps a p k (o ∷ os) =
     cond_both (keeps o) (o ∷ filter keeps os) (filter keeps os) (λ (l : List Order). margin_of a p k l ≤ cond (eqb o.account a) (order_margin p k o) 0 + margin_of a p k os) (λ e. omega (arith, rest)) (λ e. omega (arith, rest))
 
 -- where all pass, all are kept
-all_stay : (keeps : Order → Bool) (os : List Order) → All (λ (o : Order). keeps o ≡ true) os → filter keeps os ≡ os
+all_stay : (keeps : Order → Bool) (os : List Order) → AllByRecursion (λ (o : Order). keeps o ≡ true) os → filter keeps os ≡ os
 all_stay keeps [] h = refl
 all_stay keeps (o ∷ os) h = cond-true (keeps o) (o ∷ filter keeps os) (filter keeps os) h.0 ∙ ap (λ (l : List Order). o ∷ l) (all_stay keeps os h.1)
 
@@ -74,6 +74,6 @@ quiet_fewer m s keeps settled =
     let before : Order → Bool = λ (o : Order). not (decision s m o.account).void in
     let after : Order → Bool = λ (o : Order). not (decision t m o.account).void in
     let Passes : (Order → Bool) → Order → Type 0 = λ (test : Order → Bool) (o : Order). test o ≡ true in
-    let all : All (Passes before) os = subst (All (Passes before)) (ap (λ (x : State). x.orders) settled) (kept_by_passes before os) in
-    let rest : All (Passes after) (filter keeps os) = All-weaker (Passes before) (Passes after) stays (filter keeps os) (all_kept_by keeps (Passes before) os all) in
+    let all : AllByRecursion (Passes before) os = subst (AllByRecursion (Passes before)) (ap (λ (x : State). x.orders) settled) (kept_by_passes before os) in
+    let rest : AllByRecursion (Passes after) (filter keeps os) = All-weaker (Passes before) (Passes after) stays (filter keeps os) (all_kept_by keeps (Passes before) os all) in
     sym (is_reviewed m t (spot_of s) (mark_of s) refl refl s.states (filter keeps os) s.order_slots put (sym (all_stay after (filter keeps os) rest)) refl)

@@ -1,6 +1,6 @@
 -- Which of several sentences refuses a call, and what its answer tells.
 use Rattle.std.proofs.Common.{◌≡◌, ℕ, ◌*◌, Bool, true, false, cond, not, eqb, ltb, List, [], ◌∷◌, ◌++◌, Some, None, Ok, Err, Option, refl, arith}
-use Rattle.std.specs.List.{AllByRecursion as All}
+use Rattle.std.specs.List.{AllByRecursion}
 use Rattle.std.proofs.lemmas.Bool.Decides.{nat_tests}
 use Rattle.terms.specs.declared.refusal.Refusal.{Refusal}
 use Rattle.terms.specs.declared.refusal.Refusal.TheVariants.{NoEntryLeft}
@@ -36,11 +36,11 @@ first_behind (x ∷ xs) ys h = one x.applies h (first_behind xs ys)
     one false g rest = rest g
 
 -- where none refuses, none applies
-pub none_applies : (xs : List Sentence) → first xs ≡ None → All (λ (x : Sentence). x.applies ≡ false) xs
+pub none_applies : (xs : List Sentence) → first xs ≡ None → AllByRecursion (λ (x : Sentence). x.applies ≡ false) xs
 none_applies [] h = tt
 none_applies (x ∷ xs) h = one x.applies h (none_applies xs)
   where
-    one : (b : Bool) → cond b (Some x.refuses) (first xs) ≡ None → (first xs ≡ None → All (λ (y : Sentence). y.applies ≡ false) xs) → (b ≡ false) × All (λ (y : Sentence). y.applies ≡ false) xs
+    one : (b : Bool) → cond b (Some x.refuses) (first xs) ≡ None → (first xs ≡ None → AllByRecursion (λ (y : Sentence). y.applies ≡ false) xs) → (b ≡ false) × AllByRecursion (λ (y : Sentence). y.applies ≡ false) xs
     one true g rest = let z : ◌≡◌ {A = ℕ} 0 1 = cc in absurd (omega arith)
     one false g rest = (refl, rest g)
 

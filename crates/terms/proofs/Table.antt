@@ -1,6 +1,6 @@
 -- A table of figures stands where one test over the whole of it, which computes, says so.
 use Rattle.std.proofs.Common.{◌≡◌, Bool, true, false, ◌&&◌, T, eqb, List, [], ◌∷◌, ℤ, pos, negsuc, refl, ap, eqb→eq}
-use Rattle.std.specs.List.{AllByRecursion as All}
+use Rattle.std.specs.List.{AllByRecursion}
 use Rattle.terms.specs.Rounding.{ceiling}
 use Rattle.terms.specs.Charges.{points, difference, paid, received}
 use Rattle.terms.specs.Margins.{requirement, shortfall}
@@ -41,7 +41,7 @@ all_same_is (x ∷ xs) (y ∷ ys) t =
     let p = both (same x y) (all_same xs ys) t in
     rw (same_is x y p.0, all_same_is xs ys p.1)
 
-agree_stands : (fs : List Figure) → T (agree fs) → All Stands fs
+agree_stands : (fs : List Figure) → T (agree fs) → AllByRecursion Stands fs
 agree_stands [] t = tt
 agree_stands (f ∷ fs) t =
     let p = both (all_same f.got f.told) (agree fs) t in

@@ -1,6 +1,6 @@
 -- Worked figures: each row is a definition applied, and its value. Each yen or sen below can be checked by hand.
 use Rattle.std.specs.Prelude.{◌≡◌, ℕ, Bool, cond, List, [], ◌∷◌, ◌++◌, map, ℤ, pos, ◌-ℤ◌, neg_ℤ}
-use Rattle.std.specs.List.{AllByRecursion as All}
+use Rattle.std.specs.List.{AllByRecursion}
 use Rattle.terms.specs.declared.lot.Lot.{Lot}
 use Rattle.terms.specs.declared.side.Side.TheVariants.{Buy, Sell}
 use Rattle.terms.specs.Charges.{points, difference, paid, received}
@@ -61,4 +61,4 @@ abbrev pub Stands : Figure → Type 0
 Stands f = f.got ≡ f.told
 
 abbrev pub FiguresStand : Type 0
-FiguresStand = All Stands figures
+FiguresStand = AllByRecursion Stands figures
