@@ -14,6 +14,13 @@ is_open CutDue = false
 is_open (CutInHand n) = false
 is_open CutOut = false
 
+abbrev pub is_sound : AccountState → Bool
+is_sound Sound = true
+is_sound (Called d s) = false
+is_sound CutDue = false
+is_sound (CutInHand n) = false
+is_sound CutOut = false
+
 -- with lots, and equity at most 50 × the requirement
 abbrev pub falls : Standing → Bool
 falls s = nat_lt 0 s.units && at_cut_level s.equity s.requirement

@@ -1,4 +1,4 @@
-ghost use Rattle.std.specs.Prelude.{◌≡◌, ℕ, ◌<◌, if◌then◌else◌, nat_eq};
+ghost use Rattle.std.specs.Prelude.{◌≡◌, ℕ, if◌then◌else◌, nat_eq};
 ghost use Rattle.accounts.specs.declared.state.AccountState.TheVariants.{Sound};
 ghost use Rattle.accounts.specs.States.{state_of};
 
@@ -13,7 +13,7 @@ pub struct Accounts {
 impl Accounts {
     // All accounts are sound.
     pub fn new() -> Accounts
-        ensures { (a : ℕ) → a < 256 → state_of result a ≡ Sound }
+        ensures { (a : ℕ) → state_of result a ≡ Sound }
     {
         Accounts {
             states: [AccountState::Sound; 256],

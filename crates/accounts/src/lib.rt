@@ -5,6 +5,7 @@ pub mod accounts;
 pub mod review;
 pub mod standing;
 pub mod state;
+pub mod withdrawals;
 
 pub use accounts::Accounts;
 pub use standing::{Decision, Standing};

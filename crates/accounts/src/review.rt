@@ -1,18 +1,31 @@
 ghost use Rattle.std.specs.Prelude.{◌≡◌};
-ghost use Rattle.accounts.specs.Review.{is_open, falls, lacks, reviewed, cleared, ReviewingTwiceIsOnce, ReviewsLeaveTheRest};
+ghost use Rattle.accounts.specs.Review.{is_open, is_sound, falls, lacks, reviewed, cleared, ReviewingTwiceIsOnce, ReviewsLeaveTheRest};
 
 use crate::standing::{Decision, Standing};
 use crate::state::AccountState;
 use terms::margins::{is_at_cut_level, is_short_of};
 use terms::ranges::PROPRIETARY;
 
-// Only sound and called accounts are reviewed.
-fn is_open(state: AccountState) -> bool
+// Only sound and called accounts are reviewed, and may enter orders.
+pub fn is_open(state: AccountState) -> bool
     ensures { result ≡ is_open state }
 {
     match state {
         AccountState::Sound | AccountState::Called { .. } => true,
         AccountState::CutDue | AccountState::CutInHand { .. } | AccountState::CutOut => false,
+    }
+}
+
+// Only a sound account may withdraw.
+pub fn is_sound(state: AccountState) -> bool
+    ensures { result ≡ is_sound state }
+{
+    match state {
+        AccountState::Sound => true,
+        AccountState::Called { .. }
+        | AccountState::CutDue
+        | AccountState::CutInHand { .. }
+        | AccountState::CutOut => false,
     }
 }
 

@@ -1,7 +1,8 @@
 use crate::accounts::Accounts;
-use crate::review::{clear, review};
+use crate::review::{clear, is_open, is_sound, review};
 use crate::standing::Standing;
 use crate::state::AccountState;
+use crate::withdrawals::exceeds;
 
 // A state by a word, for a test to compare.
 fn word(state: AccountState) -> &'static str {
@@ -91,4 +92,29 @@ fn states_of_accounts(rt: HostRuntime) {
     accounts.set(255, AccountState::CutDue);
     assert_eq!(rt; word(accounts.state(255)), "cut due");
     assert_eq!(rt; word(accounts.state(254)), "sound");
+}
+
+#[test]
+fn what_can_be_paid_out(rt: HostRuntime) {
+    let bound = standing(1_000, 0, 4, 0);
+    assert!(rt; !exceeds(600, 1_000, bound), "all that equity leaves");
+    assert!(rt; exceeds(601, 1_000, bound), "a sen more");
+    let free = standing(1_000, 0, 0, 0);
+    assert!(rt; !exceeds(500, 500, free), "all of the balance");
+    assert!(rt; exceeds(501, 500, free), "a sen more than the balance");
+    assert!(rt; exceeds(1, -1, free), "a balance below nought");
+}
+
+#[test]
+fn who_may_order_and_withdraw(rt: HostRuntime) {
+    let called = AccountState::Called {
+        day: 0,
+        shortfall: 1,
+    };
+    assert!(rt; is_open(called));
+    assert!(rt; !is_sound(called));
+    assert!(rt; is_sound(AccountState::Sound));
+    assert!(rt; !is_open(AccountState::CutDue));
+    assert!(rt; !is_open(AccountState::CutInHand { order: 1 }));
+    assert!(rt; !is_open(AccountState::CutOut));
 }

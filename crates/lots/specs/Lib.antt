@@ -1,2 +1,3 @@
 pub mod Lots
 pub mod Worth
+pub mod Positions

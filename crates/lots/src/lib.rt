@@ -2,6 +2,7 @@
 #![tactic(auto)]
 
 pub mod holding;
+pub mod positions;
 pub mod valuation;
 
 pub use holding::Holding;

@@ -1,12 +1,12 @@
 ghost use Rattle.std.specs.Prelude.{◌≡◌, ℕ, ◌+◌, ◌*◌, ◌<◌, ◌≤◌, true, length, get_or, pos, ◌+ℤ◌, slice_index_or, unsigned_abs};
 ghost use Rattle.slots.specs.Items.{items, capacity};
-ghost use Rattle.lots.specs.Worth.{worth, Plus, no_holding, holding_of};
+ghost use Rattle.lots.specs.Worth.{worth, worth_of_all, Plus, no_holding, holding_of};
 ghost use Rattle.lots.specs.Lots.{lawful_lot, lawful_lots};
 
 use crate::holding::Holding;
+use terms::closing::settlement;
 use slots::List;
 use terms::Lot;
-use terms::closing::settlement;
 
 // What a lot gives its account where it is closed out at a price.
 pub fn worth(lot: Lot, time: u32, price: u32) -> i64
@@ -51,4 +51,20 @@ pub fn holdings(lots: &List<Lot>, time: u32, price: u32) -> [Holding; 256]
         sums[a] = plus(sums[a], worth(l, time, price), l.quantity);
     }
     sums
+}
+
+// What all lots give, closed out at a price: one pass over them.
+pub fn worth_of_all(lots: &List<Lot>, time: u32, price: u32) -> i64
+    requires time { time ≤ 94694399 }
+    requires price { price ≤ 100000000 }
+    requires few { capacity lots.now ≤ 4096 }
+    requires lots { lawful_lots time (items lots.now) ≡ true }
+    ensures value { result ≡ worth_of_all (pos price) (items lots.now) }
+    ensures bound { unsigned_abs result ≤ 76240000000000 * 4096 }
+{
+    let mut sum = 0i64;
+    for i in 0..lots.len() {
+        sum = sum + worth(lots.get(i), time, price);
+    }
+    sum
 }

@@ -1,3 +1,4 @@
 pub mod Lawful
 pub mod Sums
 pub mod Places
+pub mod Numbers

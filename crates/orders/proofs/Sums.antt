@@ -8,12 +8,12 @@ use Rattle.terms.specs.Codes.{same_side}
 use Rattle.orders.specs.declared.order.Order.{Order}
 use Rattle.orders.specs.Margins.{order_margin, margin_of, ordered_of}
 
-margin_push : (a p k : ℕ) (os : List Order) (o : Order) → margin_of a p k (os ++ o ∷ []) ≡ margin_of a p k os + cond (eqb o.account a) (order_margin p k o) 0
+pub margin_push : (a p k : ℕ) (os : List Order) (o : Order) → margin_of a p k (os ++ o ∷ []) ≡ margin_of a p k os + cond (eqb o.account a) (order_margin p k o) 0
 unfolding margin_of
 margin_push a p k [] o = omega arith
 margin_push a p k (x ∷ os) o = let e = margin_push a p k os o in omega arith
 
-ordered_push : (a : ℕ) (s : Side) (os : List Order) (o : Order) → ordered_of a s (os ++ o ∷ []) ≡ ordered_of a s os + cond (eqb o.account a && same_side o.side s) o.quantity 0
+pub ordered_push : (a : ℕ) (s : Side) (os : List Order) (o : Order) → ordered_of a s (os ++ o ∷ []) ≡ ordered_of a s os + cond (eqb o.account a && same_side o.side s) o.quantity 0
 unfolding ordered_of
 ordered_push a s [] o = omega arith
 ordered_push a s (x ∷ os) o = let e = ordered_push a s os o in omega arith

@@ -1,2 +1,3 @@
 pub mod Orders
 pub mod Margins
+pub mod Numbers

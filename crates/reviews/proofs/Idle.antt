@@ -1,8 +1,18 @@
--- An account without lots and orders is left as it is.
-use Rattle.std.proofs.Common.{◌≡◌, ℕ, ◌+◌, Bool, true, false, cond, not, ◌||◌, eqb, ℤ, refl, ap, ◌∙◌, mul-zero, zero-mul, arith}
+-- An account without lots and orders is left as it is; no account past 255 has any.
+use Rattle.std.proofs.Common.{◌≡◌, ℕ, ◌+◌, ◌≤◌, Bool, true, false, cond, not, ◌||◌, eqb, List, [], ◌∷◌, ℤ, refl, ap, ◌∙◌, mul-zero, zero-mul, arith}
+use Rattle.std.proofs.lemmas.Bool.{and_parts, ne_eqb, cond-false}
+use Rattle.slots.specs.Every.{every}
+use Rattle.terms.specs.declared.lot.Lot.{Lot}
 use Rattle.terms.specs.Rounding.{ceiling}
 use Rattle.terms.specs.Margins.{requirement}
 use Rattle.lots.specs.declared.holding.Holding.{Holding}
+use Rattle.lots.specs.Lots.{lawful_lot, lawful_lots}
+use Rattle.lots.specs.Worth.{units_of}
+use Rattle.lots.proofs.Lawful.{lawful}
+use Rattle.orders.specs.declared.order.Order.{Order}
+use Rattle.orders.specs.Margins.{order_margin, margin_of}
+use Rattle.orders.specs.Orders.{lawful_order, lawful_orders}
+use Rattle.orders.proofs.Lawful as order
 use Rattle.accounts.specs.declared.state.AccountState.{AccountState}
 use Rattle.accounts.specs.declared.standing.Standing.{Standing}
 use Rattle.accounts.specs.declared.standing.Decision.{Decision}
@@ -28,3 +38,20 @@ no_margin z p spot a h n u e =
     zero : (b : Bool) → ◌≡◌ {A = ℕ} (cond b 0 0) 0
     zero true = refl
     zero false = refl
+
+-- no lawful lot or order is of an account past 255
+pub no_units : (time a : ℕ) → 256 ≤ a → (ls : List Lot) → lawful_lots time ls ≡ true → units_of a ls ≡ 0
+unfolding every units_of
+no_units time a h [] s = refl
+no_units time a h (l ∷ ls) s =
+    let parts = and_parts (lawful_lot time l) (lawful_lots time ls) s in
+    let other : l.account ≡ a → ⊥ = λ e. omega (arith, e, (lawful time l parts.0).owner.1) in
+    omega (arith, cond-false (eqb l.account a) l.quantity 0 (ne_eqb l.account a other), no_units time a h ls parts.1)
+
+pub no_margins : (a p mark : ℕ) → 256 ≤ a → (os : List Order) → lawful_orders os ≡ true → margin_of a p mark os ≡ 0
+unfolding every margin_of
+no_margins a p mark h [] s = refl
+no_margins a p mark h (o ∷ os) s =
+    let parts = and_parts (lawful_order o) (lawful_orders os) s in
+    let other : o.account ≡ a → ⊥ = λ e. omega (arith, e, (order.lawful o parts.0).owner.1) in
+    omega (arith, cond-false (eqb o.account a) (order_margin p mark o) 0 (ne_eqb o.account a other), no_margins a p mark h os parts.1)

@@ -6,6 +6,7 @@ use Rattle.lots.specs.declared.holding.Holding.{Holding}
 use Rattle.orders.specs.declared.order.Order.{Order}
 use Rattle.orders.specs.Orders.{lawful_orders}
 use Rattle.accounts.specs.declared.accounts.Accounts.{Accounts}
+use Rattle.accounts.specs.declared.state.AccountState.{AccountState}
 use Rattle.accounts.specs.declared.standing.Decision.{Decision}
 use Rattle.accounts.specs.Review.{reviewed}
 use Rattle.accounts.specs.States.{state_of}
@@ -29,3 +30,17 @@ ReviewingAllTwiceIsOnce =
     → lawful_orders orders ≡ true
     → ((a : ℕ) → a < 256 → (decided m percent spot mark lots (orders_left m percent spot mark lots orders accounts) after a).state ≡ state_of after a)
     × (orders_left m percent spot mark lots (orders_left m percent spot mark lots orders accounts) after ≡ orders_left m percent spot mark lots orders accounts)
+
+-- the same by a state for each account, whatever keeps the states
+abbrev pub judged : Meaning → (percent spot mark : ℕ) → List Lot → List Order → (ℕ → AccountState) → ℕ → Decision
+judged m percent spot mark lots orders states a = reviewed a (states a) (standing_of m percent spot mark lots orders a)
+
+abbrev pub orders_spared : Meaning → (percent spot mark : ℕ) → List Lot → List Order → (ℕ → AccountState) → List Order
+orders_spared m percent spot mark lots orders states = filter (λ (o : Order). not (judged m percent spot mark lots orders states o.account).void) orders
+
+abbrev pub JudgingAllTwiceIsOnce : Type 0
+JudgingAllTwiceIsOnce =
+    (m : Meaning) (percent spot mark : ℕ) (lots : List Lot) (orders : List Order) (states after : ℕ → AccountState)
+    → ((a : ℕ) → after a ≡ (judged m percent spot mark lots orders states a).state)
+    → ((a : ℕ) → (judged m percent spot mark lots (orders_spared m percent spot mark lots orders states) after a).state ≡ after a)
+    × (orders_spared m percent spot mark lots (orders_spared m percent spot mark lots orders states) after ≡ orders_spared m percent spot mark lots orders states)

@@ -4,7 +4,7 @@ ghost use Rattle.lots.specs.Lots.{lawful_lots};
 ghost use Rattle.lots.specs.Worth.{no_holding};
 ghost use Rattle.orders.specs.Orders.{lawful_orders};
 ghost use Rattle.accounts.specs.States.{state_of};
-ghost use Rattle.reviews.specs.Reviews.{decided_by, decided, orders_left, ReviewingAllTwiceIsOnce};
+ghost use Rattle.reviews.specs.Reviews.{decided_by, decided, orders_left, ReviewingAllTwiceIsOnce, JudgingAllTwiceIsOnce};
 
 use crate::standing::standing;
 use accounts::review::review as review_one;
@@ -55,6 +55,7 @@ fn decide_all<B: Book>(
     requires worths { (a : ℕ) → a < 256 → unsigned_abs (get_or holdings.now a no_holding).worth ≤ 76240000000000 * 4096 }
     requires margins { (a : ℕ) → a < 256 → slice_index margins.now a ≤ 50000000000 * 4096 }
     ensures states { (a : ℕ) → a < 256 → state_of accounts.new a ≡ (decided_by ((B.meaning book.now).balance a) settings.now.margin_percent spot a accounts.old (slice_index_or holdings.now a no_holding) (slice_index margins.now a)).state }
+    ensures rest { (a : ℕ) → 256 ≤ a → state_of accounts.new a ≡ state_of accounts.old a }
     ensures voids { (a : ℕ) → a < 256 → slice_index_or result a false ≡ (decided_by ((B.meaning book.now).balance a) settings.now.margin_percent spot a accounts.old (slice_index_or holdings.now a no_holding) (slice_index margins.now a)).void }
 {
     let mut void = [false; 256];
@@ -92,6 +93,7 @@ pub fn review<B: Book>(
     requires few_orders { capacity orders.old ≤ 4096 }
     requires orders { lawful_orders (items orders.old) ≡ true }
     ensures states { (a : ℕ) → a < 256 → state_of accounts.new a ≡ (decided (B.meaning book.now) settings.now.margin_percent spot mark (items lots.now) (items orders.old) accounts.old a).state }
+    ensures past { (a : ℕ) → 256 ≤ a → state_of accounts.new a ≡ (decided (B.meaning book.now) settings.now.margin_percent spot mark (items lots.now) (items orders.old) accounts.old a).state }
     ensures orders { items orders.new ≡ orders_left (B.meaning book.now) settings.now.margin_percent spot mark (items lots.now) (items orders.old) accounts.old }
     ensures free { drop (length (items orders.old) - length (items orders.new)) (free orders.new) ≡ free orders.old }
     ensures capacity { capacity orders.new ≡ capacity orders.old }
@@ -105,4 +107,9 @@ pub fn review<B: Book>(
 // A law: reviewed again over the states and orders that a review left, every account keeps its state and every order stays.
 pub fn reviews_all_settle()
     ensures { ReviewingAllTwiceIsOnce }
+{}
+
+// The same by a state for each account, whatever keeps the states.
+pub fn judgements_all_settle()
+    ensures { JudgingAllTwiceIsOnce }
 {}

@@ -1,12 +1,19 @@
-ghost use Rattle.std.specs.Prelude.{◌≡◌, ◌*◌, ◌≤◌, unsigned_abs};
-ghost use Rattle.reviews.specs.Standings.{standing_by};
+ghost use Rattle.std.specs.Prelude.{◌≡◌, ◌*◌, ◌≤◌, true, unsigned_abs};
+ghost use Rattle.slots.specs.Items.{items, capacity};
+ghost use Rattle.lots.specs.Lots.{lawful_lots};
+ghost use Rattle.orders.specs.Orders.{lawful_orders};
+ghost use Rattle.reviews.specs.Standings.{standing_by, standing_of};
 
 use accounts::Standing;
+use terms::margins::requirement;
 use book::Book;
 use lots::Holding;
-use terms::Settings;
-use terms::margins::requirement;
+use lots::valuation::holdings;
+use orders::Order;
+use orders::margins::margins;
+use slots::List;
 use terms::ranges::PROPRIETARY;
+use terms::{Lot, Settings};
 
 // How an account stands, by its balance, what its lots come to and the margins of its orders. The proprietary account needs no margin.
 pub fn standing<B: Book>(
@@ -19,7 +26,8 @@ pub fn standing<B: Book>(
 ) -> Standing
     requires worth { unsigned_abs holding.worth ≤ 76240000000000 * 4096 }
     requires ordered { ordered ≤ 50000000000 * 4096 }
-    ensures { result ≡ standing_by ((B.meaning book.now).balance account) settings.now.margin_percent spot account holding ordered }
+    ensures value { result ≡ standing_by ((B.meaning book.now).balance account) settings.now.margin_percent spot account holding ordered }
+    ensures small { result.margin ≤ 200000000000000000 }
 {
     let equity = book.balance(account) + holding.worth;
     if account == PROPRIETARY {
@@ -37,4 +45,37 @@ pub fn standing<B: Book>(
         margin: requirement + ordered,
         units: holding.units,
     }
+}
+
+// How one account stands over a book, lots and orders. The mark is the last price, or spot where there is none.
+pub fn standing_of<B: Book>(
+    book: &B,
+    account: u8,
+    lots: &List<Lot>,
+    orders: &List<Order>,
+    settings: &Settings,
+    time: u32,
+    spot: u32,
+    mark: u32,
+) -> Standing
+    requires time { time ≤ 94694399 }
+    requires mark { mark ≤ 100000000 }
+    requires few_lots { capacity lots.now ≤ 4096 }
+    requires lots { lawful_lots time (items lots.now) ≡ true }
+    requires few_orders { capacity orders.now ≤ 4096 }
+    requires orders { lawful_orders (items orders.now) ≡ true }
+    ensures value { result ≡ standing_of (B.meaning book.now) settings.now.margin_percent spot mark (items lots.now) (items orders.now) account }
+    ensures few { result.units ≤ 50000 * 4096 }
+    ensures small { result.margin ≤ 200000000000000000 }
+{
+    let held = holdings(lots, time, mark);
+    let ordered = margins(orders, settings, mark);
+    standing(
+        book,
+        account,
+        held[account as usize],
+        ordered[account as usize],
+        settings,
+        spot,
+    )
 }

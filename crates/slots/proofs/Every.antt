@@ -1,6 +1,6 @@
 -- What a test of every record says of one, and what it takes to add one.
-use Rattle.std.proofs.Common.{◌≡◌, ℕ, zero, suc, ◌<◌, Bool, true, List, [], ◌∷◌, ◌++◌, length, get_or, refl, arith}
-use Rattle.std.proofs.lemmas.Bool.{and_parts, and_from}
+use Rattle.std.proofs.Common.{◌≡◌, ℕ, zero, suc, ◌<◌, Bool, true, List, [], ◌∷◌, ◌++◌, length, get_or, filter, refl, arith}
+use Rattle.std.proofs.lemmas.Bool.{and_parts, and_from, cond_both}
 use Rattle.slots.specs.Every.{every}
 
 module _ {T : Type 0} (test : T → Bool) where
@@ -20,3 +20,12 @@ module _ {T : Type 0} (test : T → Bool) where
   every_push (y ∷ xs) x s h =
       let parts = and_parts (test y) (every test xs) s in
       and_from (test y) (every test (xs ++ x ∷ [])) parts.0 (every_push xs x parts.1 h)
+
+  -- what is kept of a list passes too
+  pub every_kept : (keeps : T → Bool) (xs : List T) → every test xs ≡ true → every test (filter keeps xs) ≡ true
+  unfolding every
+  every_kept keeps [] s = refl
+  every_kept keeps (x ∷ xs) s =
+      let parts = and_parts (test x) (every test xs) s in
+      let rest = every_kept keeps xs parts.1 in
+      cond_both (keeps x) (x ∷ filter keeps xs) (filter keeps xs) (λ (l : List T). every test l ≡ true) (λ e. and_from (test x) (every test (filter keeps xs)) parts.0 rest) (λ e. rest)

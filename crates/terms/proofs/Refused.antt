@@ -7,6 +7,10 @@ pub taken : (o : Option Refusal) → answer o ≡ Ok tt → o ≡ None
 taken None h = refl
 taken (Some e) h = let z : ◌≡◌ {A = ℕ} 0 1 = cc in absurd (omega arith)
 
+pub refused : (o : Option Refusal) (e : Refusal) → answer o ≡ Err e → o ≡ Some e
+refused None e h = let z : ◌≡◌ {A = ℕ} 0 1 = cc in absurd (omega arith)
+refused (Some d) e h = cc
+
 pub unless_none : {X : Type 0} (o : Option Refusal) (x y : X) → o ≡ None → unless o x y ≡ y
 unless_none o x y h = rw h
 

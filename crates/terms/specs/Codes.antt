@@ -21,6 +21,10 @@ abbrev pub side_byte : Side → ℕ
 side_byte Buy = 0
 side_byte Sell = 1
 
+-- the side of a byte that stands for one
+abbrev pub side_of : ℕ → Side
+side_of b = cond (b == 0) Buy Sell
+
 abbrev pub side_read : ℕ → Result Side Refusal
 side_read = coded Buy Sell
 

@@ -18,6 +18,10 @@ last_time = 94694399
 abbrev pub price_max : ℕ
 price_max = 100000000
 
+-- units of one order that is entered
+abbrev pub order_quantity_max : ℕ
+order_quantity_max = 10000
+
 -- the most that an account may hold and have ordered on one side
 abbrev pub position_max : ℕ
 position_max = 50000
@@ -25,6 +29,14 @@ position_max = 50000
 -- yen of one deposit or withdrawal
 abbrev pub payment_max : ℕ
 payment_max = 10000000000
+
+-- the last number that an order can have
+abbrev pub order_number_max : ℕ
+order_number_max = 4294967295
+
+-- slots that a ledger uses for lots, and for orders
+abbrev pub slots_max : ℕ
+slots_max = 4096
 
 -- sen of one transfer, and entries of one book
 abbrev pub transfer_max : ℕ

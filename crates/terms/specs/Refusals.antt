@@ -44,6 +44,11 @@ abbrev pub answer : Option Refusal → Result (Unit {0}) Refusal
 answer None = Ok tt
 answer (Some e) = Err e
 
+-- the same of a call that has something to tell
+abbrev pub told : {A : Type 0} → Option Refusal → A → Result A Refusal
+told None a = Ok a
+told (Some e) a = Err e
+
 -- what a call leaves: at a refusal what there was
 abbrev pub unless : {X : Type 0} → Option Refusal → X → X → X
 unless None old new = new

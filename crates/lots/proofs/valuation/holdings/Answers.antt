@@ -70,8 +70,8 @@ loop-i-preserved c =
       simp length-set inv.0,
       λ a j.
           ⊎_elim
-          (λ (s : l.account ≡ a). own a s ∙ own_more m ls i l h c.get-l.ensures a s old new (inv.1 l.account k ∙ ap (λ (n : ℕ). holding_of n m (take i ls)) s) p)
-          (λ (d : l.account ≡ a → ⊥). other a d ∙ inv.1 a j ∙ other_more m ls i l h c.get-l.ensures a d)
+          (λ (s : l.account ≡ a). own a s ∙ own_more ls i l h c.get-l.ensures m a s old new (inv.1 l.account k ∙ ap (λ (n : ℕ). holding_of n m (take i ls)) s) p)
+          (λ (d : l.account ≡ a → ⊥). other a d ∙ inv.1 a j ∙ other_more ls i l h c.get-l.ensures m a d)
           (cases_eq l.account a),
       λ a j.
           ⊎_elim

@@ -52,5 +52,6 @@ returns g c =
     let inv = c.loop-a.invariant in
     record {
       states = λ a h. inv.1 a (omega (arith, h, c.loop-a-test.false));
+      rest = λ a h. inv.2 a (omega (arith, h, c.loop-a.auto.a-end));
       voids = λ a h. inv.3 a (omega (arith, h, c.loop-a-test.false));
     }
