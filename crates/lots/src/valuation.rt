@@ -4,9 +4,9 @@ ghost use Rattle.lots.specs.Worth.{worth, worth_of_all, Plus, no_holding, holdin
 ghost use Rattle.lots.specs.Lots.{lawful_lot, lawful_lots};
 
 use crate::holding::Holding;
-use terms::closing::settlement;
 use slots::List;
 use terms::Lot;
+use terms::closing::settlement;
 
 // What a lot gives its account where it is closed out at a price.
 pub fn worth(lot: Lot, time: u32, price: u32) -> i64

@@ -5,8 +5,8 @@ ghost use Rattle.orders.specs.Margins.{order_margin, margin_of, ordered_of};
 ghost use Rattle.orders.specs.Orders.{lawful_order, lawful_orders};
 
 use crate::order::Order;
-use terms::margins::requirement;
 use slots::List;
+use terms::margins::requirement;
 use terms::{Settings, Side};
 
 // The margin of an order in yen: at its limit, or at the mark for a market order; none for a cut order.

@@ -5,13 +5,13 @@ ghost use Rattle.orders.specs.Orders.{lawful_orders};
 ghost use Rattle.reviews.specs.Standings.{standing_by, standing_of};
 
 use accounts::Standing;
-use terms::margins::requirement;
 use book::Book;
 use lots::Holding;
 use lots::valuation::holdings;
 use orders::Order;
 use orders::margins::margins;
 use slots::List;
+use terms::margins::requirement;
 use terms::ranges::PROPRIETARY;
 use terms::{Lot, Settings};
 

@@ -5,7 +5,7 @@ use Rattle.terms.specs.declared.refusal.Refusal.TheVariants.{OrderNotHeld}
 use Rattle.terms.specs.Refusals.{◌gives◌}
 use Rattle.orders.specs.declared.order.Order.{Order}
 use Rattle.orders.specs.Numbers.{held, is_plain, without}
-use Rattle.orders.proofs.Numbers.{rising-kept, without-held, without-others}
+use Rattle.orders.proofs.Numbers.{rising_kept, without_held, without_others}
 use Rattle.rules.specs.State.{with_orders}
 use Rattle.rules.specs.Valuation.{decision, reviewed}
 use Rattle.rules.specs.Laws.{CancelsTakeOneOrder}
@@ -21,10 +21,10 @@ cancels n s m h =
     let other : Order → Bool = λ (o : Order). not (eqb o.number n) in
     record {
       was = not-false (is_plain (held n s.orders)) (none_applies (not (is_plain (held n s.orders)) gives OrderNotHeld ∷ []) h).0;
-      gone = without-held n s.orders;
-      others = λ k d. without-others n k s.orders d;
-      stays_gone = none_kept keeps n os (without-held n s.orders);
+      gone = without_held n s.orders;
+      others = λ k d. without_others n k s.orders d;
+      stays_gone = none_kept keeps n os (without_held n s.orders);
       only = quiet_fewer m s other;
       none_new = λ numbered k o e.
-          held_kept other k 0 s.issued s.orders o numbered (held_kept keeps k 0 s.issued os o (rising-kept other 0 s.issued s.orders numbered) e);
+          held_kept other k 0 s.issued s.orders o numbered (held_kept keeps k 0 s.issued os o (rising_kept other 0 s.issued s.orders numbered) e);
     }

@@ -4,10 +4,10 @@ use Rattle.std.proofs.lemmas.Bool.{cases_eq, eq-eqb, ne_eqb, eqb-false, leb-fals
 use Rattle.std.proofs.lemmas.Bool.Decides.{nat_tests}
 use Rattle.terms.specs.declared.refusal.Refusal.{Refusal}
 use Rattle.terms.specs.declared.refusal.Refusal.TheVariants.{NoSpotPrice, WrongAccountState, PositionTooLarge, MarginTooSmall, NoSlotLeft}
-use Rattle.terms.specs.Ranges.{between, price_max, order-quantity-max, position_max, order-number-max}
+use Rattle.terms.specs.Ranges.{between, price_max, order_quantity_max, position_max, order_number_max}
 use Rattle.terms.specs.Refusals.{◌gives◌, first}
 use Rattle.terms.specs.declared.side.Side.{Side}
-use Rattle.arithmetic.specs.Margins.{requirement, short_of}
+use Rattle.terms.specs.Margins.{requirement, short_of}
 use Rattle.book.specs.Meaning.{Meaning}
 use Rattle.lots.specs.Worth.{units_of}
 use Rattle.orders.specs.declared.order.Order.{Order}
@@ -69,11 +69,11 @@ order_first n k a side price q s m x₁ x₂ x₃ x₄ x₅ e₁ e₂ e₃ e₄ 
 pub admitted_spot : (o : Order) (s : State) (m : Meaning) → first (order_sentences o s m) ≡ None → is_some s.spot ≡ true
 admitted_spot o s m h = not-false (is_some s.spot) (none_applies (order_sentences o s m) h).0
 
-pub admitted_room : (o : Order) (s : State) (m : Meaning) → first (order_sentences o s m) ≡ None → (length s.orders < s.order_slots) × (s.issued ≡ order-number-max → ⊥)
+pub admitted_room : (o : Order) (s : State) (m : Meaning) → first (order_sentences o s m) ≡ None → (length s.orders < s.order_slots) × (s.issued ≡ order_number_max → ⊥)
 admitted_room o s m h =
     let none = none_applies (order_sentences o s m) h in
-    let parts = or_parts (leb s.order_slots (length s.orders)) (eqb s.issued order-number-max) none.1.1.1.1.0 in
-    (leb-false s.order_slots (length s.orders) parts.0, eqb-false s.issued order-number-max parts.1)
+    let parts = or_parts (leb s.order_slots (length s.orders)) (eqb s.issued order_number_max) none.1.1.1.1.0 in
+    (leb-false s.order_slots (length s.orders) parts.0, eqb-false s.issued order_number_max parts.1)
 
 -- an order of a lawful form is lawful
 pub form_lawful : (n a b price q : ℕ) (side : Side) → a ≤ 255 → first (order_forms a b price q) ≡ None → lawful_order (plain_order n a side price q) ≡ true
@@ -81,5 +81,5 @@ form_lawful n a b price q side top h =
     let none = none_applies (order_forms a b price q) h in
     lawful none.0 none.1.1.0 none.1.1.1.0
   where
-    lawful : ltb a 2 ≡ false → ltb price_max price ≡ false → not (between 1 order-quantity-max q) ≡ false → (between 2 255 a && (leb price price_max && between 1 position_max q)) ≡ true
+    lawful : ltb a 2 ≡ false → ltb price_max price ≡ false → not (between 1 order_quantity_max q) ≡ false → (between 2 255 a && (leb price price_max && between 1 position_max q)) ≡ true
     lawful x y z = grind (arith, nat_tests)

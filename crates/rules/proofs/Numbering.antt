@@ -4,7 +4,7 @@ use Rattle.terms.specs.Ranges.{bank}
 use Rattle.book.specs.Meaning.{Meaning, entered}
 use Rattle.orders.specs.declared.order.Order.{Order}
 use Rattle.orders.specs.Numbers.{without}
-use Rattle.orders.proofs.Numbers.{rising-kept, rising-push, rising-at, rising-apart}
+use Rattle.orders.proofs.Numbers.{rising_kept, rising_push, rising_at, rising_apart}
 use Rattle.rules.specs.State.{State, with_spot, with_order, with_orders}
 use Rattle.rules.specs.Valuation.{decision, reviewed, call_cleared}
 use Rattle.rules.specs.Calls.{next_order}
@@ -16,7 +16,7 @@ unfolding reviewed
 then m s t r =
     record {
       issued = r.issued;
-      numbered = λ n. rising-kept (λ (o : Order). not (decision t m o.account).void) 0 t.issued t.orders (r.numbered n);
+      numbered = λ n. rising_kept (λ (o : Order). not (decision t m o.account).void) 0 t.issued t.orders (r.numbered n);
     }
 
 -- no order comes and none goes
@@ -35,9 +35,9 @@ calls =
       withdraw = λ a yen s m h. then (entered m a bank (100 * yen)) s s (same s s refl refl);
       order = λ a b price q s m h.
           let o = next_order a b price q s in
-          then m s (with_order o s) (record { issued = omega arith; numbered = λ n. rising-push 0 s.issued s.orders o (omega arith) (omega arith) n });
+          then m s (with_order o s) (record { issued = omega arith; numbered = λ n. rising_push 0 s.issued s.orders o (omega arith) (omega arith) n });
       cancel = λ n s m h.
-          then m s (with_orders (without n s.orders) s) (record { issued = omega arith; numbered = λ r. rising-kept (λ (o : Order). not (eqb o.number n)) 0 s.issued s.orders r });
+          then m s (with_orders (without n s.orders) s) (record { issued = omega arith; numbered = λ r. rising_kept (λ (o : Order). not (eqb o.number n)) 0 s.issued s.orders r });
     }
 
 pub next : OrdersHaveTheNextNumber
@@ -45,4 +45,4 @@ unfolding reviewed
 next a b price q s m h = record { answer = refl; issued = refl }
 
 pub apart : NumberedOrdersAreApart
-apart s n = record { later = λ i j d l h. rising-apart 0 s.issued s.orders i j d n l h; within = λ i d h. (rising-at 0 s.issued s.orders i d n h).1 }
+apart s n = record { later = λ i j d l h. rising_apart 0 s.issued s.orders i j d n l h; within = λ i d h. (rising_at 0 s.issued s.orders i d n h).1 }

@@ -3,7 +3,7 @@ use Rattle.std.proofs.Common.{◌≡◌, ℕ, ◌+◌, Bool, true, false, cond, 
 use Rattle.std.proofs.lemmas.Int.{ints}
 use Rattle.std.proofs.lemmas.Bool.{and_parts, cond-false, ne_eqb, false≢true}
 use Rattle.terms.specs.declared.lot.Lot.{Lot}
-use Rattle.arithmetic.specs.Margins.{requirement}
+use Rattle.terms.specs.Margins.{requirement}
 use Rattle.lots.specs.Worth.{worth_of, worth_of_all, units_of}
 use Rattle.orders.specs.declared.order.Order.{Order}
 use Rattle.orders.specs.Margins.{margin_of}

@@ -6,7 +6,7 @@ use Rattle.std.proofs.ByRecursion.{All-weaker, all_kept_by, kept_by_passes}
 use Rattle.std.proofs.lemmas.Int.{ints}
 use Rattle.std.proofs.lemmas.Bool.{cond_both, cond-true, true≢false, not-true}
 use Rattle.std.proofs.lemmas.Bool.Decides.{nat_tests}
-use Rattle.arithmetic.specs.Margins.{requirement, short_of}
+use Rattle.terms.specs.Margins.{requirement, short_of}
 use Rattle.book.specs.Meaning.{Meaning}
 use Rattle.lots.specs.Worth.{units_of}
 use Rattle.orders.specs.declared.order.Order.{Order}

@@ -3,17 +3,17 @@ use Rattle.std.proofs.Common.{◌≡◌, ℕ, ◌≤◌, Bool, true, false, cond
 use mathlib.Core.Path.{fun_ext}
 use Rattle.std.proofs.lemmas.Bool.{and_parts, and_from, or_left, false≢true}
 use Rattle.std.proofs.lemmas.List.Filters.{length-filter_both}
-use Rattle.slots.proofs.Every.{every-kept}
+use Rattle.slots.proofs.Every.{every_kept}
 use Rattle.terms.specs.declared.lot.Lot.{Lot}
 use Rattle.book.specs.Meaning.{Meaning}
 use Rattle.orders.specs.declared.order.Order.{Order}
 use Rattle.orders.specs.Orders.{lawful_order, lawful_orders}
 use Rattle.orders.specs.Numbers.{rising}
-use Rattle.orders.proofs.Numbers.{rising-kept}
+use Rattle.orders.proofs.Numbers.{rising_kept}
 use Rattle.accounts.specs.declared.state.AccountState.{AccountState}
 use Rattle.accounts.specs.declared.standing.Standing.{Standing}
 use Rattle.accounts.specs.Review.{cleared}
-use Rattle.reviews.specs.Reviews.{decided, orders_left}
+use Rattle.reviews.specs.Reviews.{judged, orders_spared}
 use Rattle.rules.specs.State.{State, none, valued}
 use Rattle.rules.specs.Valuation.{spot_of, mark_of, standing, reviewed, call_cleared}
 
@@ -30,15 +30,15 @@ module _ (m : Meaning) (s : State) (spot mark : ℕ) (at : spot ≡ spot_of s) (
   by_states f = ap (λ (x : ℕ). f x mark) at ∙ ap (f (spot_of s)) by
 
   pub is_reviewed : (states : ℕ → AccountState) (orders : List Order) (slots : ℕ)
-      → ((a : ℕ) → states a ≡ (decided m s.settings.margin_percent spot mark s.lots s.orders s.states a).state)
-      → orders ≡ orders_left m s.settings.margin_percent spot mark s.lots s.orders s.states
+      → ((a : ℕ) → states a ≡ (judged m s.settings.margin_percent spot mark s.lots s.orders s.states a).state)
+      → orders ≡ orders_spared m s.settings.margin_percent spot mark s.lots s.orders s.states
       → slots ≡ s.order_slots
       → with_both states orders slots s ≡ reviewed m s
   unfolding reviewed
   is_reviewed states orders slots put left same =
       alike s
-      (fun_ext (λ a. put a ∙ by_states (λ (x y : ℕ). (decided m s.settings.margin_percent x y s.lots s.orders s.states a).state)))
-      (left ∙ by_states (λ (x y : ℕ). orders_left m s.settings.margin_percent x y s.lots s.orders s.states))
+      (fun_ext (λ a. put a ∙ by_states (λ (x y : ℕ). (judged m s.settings.margin_percent x y s.lots s.orders s.states a).state)))
+      (left ∙ by_states (λ (x y : ℕ). orders_spared m s.settings.margin_percent x y s.lots s.orders s.states))
       same
 
 pub is_cleared : (a : ℕ) (m : Meaning) (s : State) (states : ℕ → AccountState) (state : AccountState) (now : Standing)
@@ -50,16 +50,16 @@ is_cleared a m s states state now is stands put =
     alike s (fun_ext (λ k. put k ∙ ap (λ (x : AccountState). cond (eqb a k) x (s.states k)) (is ∙ ap (cleared (s.states a)) stands))) refl refl
 
 -- what a review keeps of orders
-pub fewer_left : (m : Meaning) (percent spot mark : ℕ) (s : State) → length (orders_left m percent spot mark s.lots s.orders s.states) ≤ length s.orders
+pub fewer_left : (m : Meaning) (percent spot mark : ℕ) (s : State) → length (orders_spared m percent spot mark s.lots s.orders s.states) ≤ length s.orders
 fewer_left m percent spot mark s =
-    let keeps : Order → Bool = λ (o : Order). not (decided m percent spot mark s.lots s.orders s.states o.account).void in
+    let keeps : Order → Bool = λ (o : Order). not (judged m percent spot mark s.lots s.orders s.states o.account).void in
     omega (arith, length-filter_both keeps (λ (o : Order). not (keeps o)) (λ o. refl) s.orders)
 
-pub lawful_left : (m : Meaning) (percent spot mark : ℕ) (s : State) → lawful_orders s.orders ≡ true → lawful_orders (orders_left m percent spot mark s.lots s.orders s.states) ≡ true
-lawful_left m percent spot mark s h = every-kept lawful_order _ s.orders h
+pub lawful_left : (m : Meaning) (percent spot mark : ℕ) (s : State) → lawful_orders s.orders ≡ true → lawful_orders (orders_spared m percent spot mark s.lots s.orders s.states) ≡ true
+lawful_left m percent spot mark s h = every_kept lawful_order _ s.orders h
 
-pub rising_left : (m : Meaning) (percent spot mark low high : ℕ) (s : State) → rising low high s.orders ≡ true → rising low high (orders_left m percent spot mark s.lots s.orders s.states) ≡ true
-rising_left m percent spot mark low high s h = rising-kept _ low high s.orders h
+pub rising_left : (m : Meaning) (percent spot mark low high : ℕ) (s : State) → rising low high s.orders ≡ true → rising low high (orders_spared m percent spot mark s.lots s.orders s.states) ≡ true
+rising_left m percent spot mark low high s h = rising_kept _ low high s.orders h
 
 -- prices stay in force for fewer orders, and for one more once there is spot
 pub valued_kept : (keeps : Order → Bool) (spot last : Option ℕ) (lots : List Lot) (orders : List Order) → valued spot last lots orders ≡ true → valued spot last lots (filter keeps orders) ≡ true

@@ -6,7 +6,7 @@ use Rattle.orders.specs.declared.order.Order.{Order}
 use Rattle.accounts.specs.declared.state.AccountState.TheVariants.{CutDue}
 use Rattle.accounts.specs.declared.standing.Decision.{Decision}
 use Rattle.accounts.specs.Review.{is_open, falls, lacks, decide}
-use Rattle.reviews.proofs.Twice.{twice}
+use Rattle.reviews.proofs.Twice.{judged_twice}
 use Rattle.rules.specs.State.{State}
 use Rattle.rules.specs.Valuation.{spot_of, mark_of, standing, decision, orders_kept, reviewed}
 use Rattle.rules.specs.Laws.{PassedOver, CallsLeaveItReviewed, ReviewingAgainAltersNothing, ReviewsAlterStatesAndOrders}
@@ -16,7 +16,7 @@ use Rattle.rules.proofs.Keeping.{all_kept}
 pub again : ReviewingAgainAltersNothing
 unfolding reviewed
 again m s =
-    let settled = twice m s.settings.margin_percent (spot_of s) (mark_of s) s.lots s.orders s.states (λ a. (decision s m a).state) (λ a. refl) in
+    let settled = judged_twice m s.settings.margin_percent (spot_of s) (mark_of s) s.lots s.orders s.states (λ a. (decision s m a).state) (λ a. refl) in
     sym (is_reviewed m (reviewed m s) (spot_of s) (mark_of s) refl refl (λ a. (decision s m a).state) (orders_kept s m) s.order_slots (λ a. sym (settled.0 a)) (sym settled.1) refl)
 
 pub calls_again : CallsLeaveItReviewed

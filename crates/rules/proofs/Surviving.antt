@@ -3,8 +3,8 @@ use Rattle.std.proofs.Common.{◌≡◌, ℕ, ◌+◌, ◌-◌, ◌*◌, ◌<◌
 use Rattle.std.proofs.lemmas.Nat.{mul-le, le-div}
 use Rattle.std.proofs.lemmas.List.Elements.{filter-append}
 use Rattle.std.proofs.lemmas.Bool.{true≢false, false≢true, ltb-false, leb-true, lt-leb, le-ltb, ne_eqb, cases_lt, cases_eq, and_parts, and_left, and_right, or_from, cond-true, cond-false}
-use Rattle.arithmetic.specs.Margins.{requirement, short_of, at_cut_level}
-use Rattle.arithmetic.specs.Rounding.{ceiling}
+use Rattle.terms.specs.Margins.{requirement, short_of, at_cut_level}
+use Rattle.terms.specs.Rounding.{ceiling}
 use Rattle.book.specs.Meaning.{Meaning}
 use Rattle.orders.specs.declared.order.Order.{Order}
 use Rattle.orders.specs.Margins.{margin_of}

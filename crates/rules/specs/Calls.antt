@@ -3,17 +3,17 @@ use Rattle.std.specs.Prelude.{ℕ, ◌+◌, ◌*◌, Bool, false, not, ◌&&◌,
 use Rattle.terms.specs.declared.refusal.Refusal.{Refusal}
 use Rattle.terms.specs.declared.refusal.Refusal.TheVariants.{AccountOutOfRange, CodeOutOfRange, PriceOutOfRange, QuantityOutOfRange, PaymentOutOfRange, NoSpotPrice, OrderNotHeld, WrongAccountState, PositionTooLarge, MarginTooSmall, NoSlotLeft, NoEntryLeft}
 use Rattle.terms.specs.declared.side.Side.{Side}
-use Rattle.terms.specs.Codes.{side-of}
-use Rattle.arithmetic.specs.Margins.{short_of}
-use Rattle.terms.specs.Ranges.{between, bank, price_max, payment_max, order-quantity-max, position_max, order-number-max}
+use Rattle.terms.specs.Codes.{side_of}
+use Rattle.terms.specs.Margins.{short_of}
+use Rattle.terms.specs.Ranges.{between, bank, price_max, payment_max, order_quantity_max, position_max, order_number_max}
 use Rattle.terms.specs.Refusals.{Sentence, ◌gives◌, first}
 use Rattle.book.specs.Meaning.{Meaning, entered}
 use Rattle.book.specs.Deposits.{deposit_refusal}
-use Rattle.lots.specs.Positions.{position-of}
+use Rattle.lots.specs.Positions.{position_of}
 use Rattle.orders.specs.declared.order.Order.{Order}
 use Rattle.orders.specs.Margins.{ordered_of}
 use Rattle.orders.specs.Numbers.{held, is_plain, without}
-use Rattle.accounts.specs.Review.{is_open, is-sound}
+use Rattle.accounts.specs.Review.{is_open, is_sound}
 use Rattle.accounts.specs.Withdrawals.{exceeds}
 use Rattle.rules.specs.State.{State, with_spot, with_order, with_orders}
 use Rattle.rules.specs.Valuation.{standing, reviewed, call_cleared}
@@ -52,7 +52,7 @@ abbrev pub withdraw_sentences : (account yen : ℕ) → State → Meaning → Li
 withdraw_sentences a yen s m =
     ltb a 2 gives AccountOutOfRange
     ∷ not (between 1 payment_max yen) gives PaymentOutOfRange
-    ∷ not (is-sound (s.states a)) gives WrongAccountState
+    ∷ not (is_sound (s.states a)) gives WrongAccountState
     ∷ exceeds (100 * yen) (m.balance a) (standing s m a) gives MarginTooSmall
     ∷ []
 
@@ -70,11 +70,11 @@ plain_order n a side price q = record { number = n; account = a; side = side; pr
 
 -- with the next number
 abbrev pub next_order : (account side price quantity : ℕ) → State → Order
-next_order a b price q s = plain_order (s.issued + 1) a (side-of b) price q
+next_order a b price q s = plain_order (s.issued + 1) a (side_of b) price q
 
 -- the order, the account's other orders of its side and its position in that direction are too much together
 abbrev pub oversized : Order → State → Bool
-oversized o s = nat_lt position_max (o.quantity + ordered_of o.account o.side s.orders + position-of o.account o.side s.lots)
+oversized o s = nat_lt position_max (o.quantity + ordered_of o.account o.side s.orders + position_of o.account o.side s.lots)
 
 -- equity is below 100 % of the margin with the order; the proprietary account is not asked
 abbrev pub uncovered : Order → State → Meaning → Bool
@@ -82,7 +82,7 @@ uncovered o s m = not (o.account == 2) && short_of (standing s m o.account).equi
 
 -- every slot holds an order, or the last number has been given
 abbrev pub exhausted : State → Bool
-exhausted s = nat_le s.order_slots (length s.orders) || s.issued == order-number-max
+exhausted s = nat_le s.order_slots (length s.orders) || s.issued == order_number_max
 
 -- an order is entered; price 0 is for a market order
 abbrev pub order_forms : (account side price quantity : ℕ) → List Sentence
@@ -90,7 +90,7 @@ order_forms a b price q =
     ltb a 2 gives AccountOutOfRange
     ∷ ltb 1 b gives CodeOutOfRange
     ∷ ltb price_max price gives PriceOutOfRange
-    ∷ not (between 1 order-quantity-max q) gives QuantityOutOfRange
+    ∷ not (between 1 order_quantity_max q) gives QuantityOutOfRange
     ∷ []
 
 abbrev pub order_sentences : Order → State → Meaning → List Sentence

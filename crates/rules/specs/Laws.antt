@@ -1,9 +1,9 @@
 -- The laws of the calls; src/laws.rt has a function for each.
 use Rattle.std.specs.Prelude.{◌≡◌, ℕ, ◌+◌, ◌<◌, ◌≤◌, true, false, ◌⊎◌, List, length, pos, Some, None, filter, ◌≢◌, nat_eq, slice_index_or}
-use Rattle.terms.specs.Codes.{side-of}
+use Rattle.terms.specs.Codes.{side_of}
 use Rattle.terms.specs.Ranges.{position_max}
 use Rattle.book.specs.Meaning.{Meaning}
-use Rattle.lots.specs.Positions.{position-of}
+use Rattle.lots.specs.Positions.{position_of}
 use Rattle.orders.specs.declared.order.Order.{Order}
 use Rattle.orders.specs.Margins.{ordered_of}
 use Rattle.orders.specs.Numbers.{held, is_plain, without, rising}
@@ -76,7 +76,7 @@ CancelsTakeOneOrder = (n : ℕ) (s : State) (m : Meaning) → Taken (cancel_call
 abbrev pub OrdersStayWithinTheLimit : Type 0
 OrdersStayWithinTheLimit =
     (a b price q : ℕ) (s : State) (m : Meaning) → Taken (order_call a b price q s m)
-    → ordered_of a (side-of b) (order_call a b price q s m).state.orders + position-of a (side-of b) (order_call a b price q s m).state.lots ≤ position_max
+    → ordered_of a (side_of b) (order_call a b price q s m).state.orders + position_of a (side_of b) (order_call a b price q s m).state.lots ≤ position_max
 
 -- no number is given twice: the last that was given does not fall, and the orders stay numbered
 pub record Numbers-rise (before after : State) : Type 0 where

@@ -2,7 +2,7 @@
 use Rattle.std.specs.Prelude.{◌≡◌, ℕ, ◌≤◌, min, Bool, true, false, ◌&&◌, ◌||◌, List, [], ◌∷◌, ◌++◌, is_some, Some, None, Option}
 use Rattle.terms.specs.declared.settings.Settings.{Settings}
 use Rattle.terms.specs.declared.lot.Lot.{Lot}
-use Rattle.terms.specs.Ranges.{between, last_time, price_max, slots-max}
+use Rattle.terms.specs.Ranges.{between, last_time, price_max, slots_max}
 use Rattle.lots.specs.Lots.{lawful_lots}
 use Rattle.orders.specs.declared.order.Order.{Order}
 use Rattle.orders.specs.Orders.{lawful_orders}
@@ -29,7 +29,7 @@ pub record State : Type 0 where
 
 -- a ledger that has just been opened
 abbrev pub opened : Settings → (lot_slots order_slots : ℕ) → State
-opened settings lots orders = record { settings = settings; time = 0; spot = None; last = None; halt = None; issued = 0; states = λ a. Sound; lots = []; orders = []; lot_slots = min slots-max lots; order_slots = min slots-max orders }
+opened settings lots orders = record { settings = settings; time = 0; spot = None; last = None; halt = None; issued = 0; states = λ a. Sound; lots = []; orders = []; lot_slots = min slots_max lots; order_slots = min slots_max orders }
 
 -- a ledger with other prices, states or orders, and all else as it was
 abbrev pub with_spot : ℕ → State → State
@@ -63,8 +63,8 @@ pub record Kept (s : State) : Type 0 where
   pub timely : s.time ≤ last_time
   pub spotted : lawful_price s.spot ≡ true
   pub marked : lawful_price s.last ≡ true
-  pub few_lots : s.lot_slots ≤ slots-max
-  pub few_orders : s.order_slots ≤ slots-max
+  pub few_lots : s.lot_slots ≤ slots_max
+  pub few_orders : s.order_slots ≤ slots_max
   pub lots_lawful : lawful_lots s.time s.lots ≡ true
   pub orders_lawful : lawful_orders s.orders ≡ true
   pub numbered : rising 0 s.issued s.orders ≡ true

@@ -7,7 +7,7 @@ use Rattle.accounts.specs.declared.standing.Standing.{Standing}
 use Rattle.accounts.specs.declared.standing.Decision.{Decision}
 use Rattle.accounts.specs.Review.{cleared}
 use Rattle.reviews.specs.Standings.{standing_of}
-use Rattle.reviews.specs.Reviews.{decided, orders_left}
+use Rattle.reviews.specs.Reviews.{judged, orders_spared}
 use Rattle.rules.specs.State.{State, with_states, with_orders}
 
 -- a price, or another where none has come
@@ -33,10 +33,10 @@ closed_out s m price a = cond (a == 1) (m.balance 1 -ℤ worth_of_all price s.lo
 
 -- what a review decides of account a
 abbrev pub decision : State → Meaning → ℕ → Decision
-decision s m a = decided m s.settings.margin_percent (spot_of s) (mark_of s) s.lots s.orders s.states a
+decision s m a = judged m s.settings.margin_percent (spot_of s) (mark_of s) s.lots s.orders s.states a
 
 abbrev pub orders_kept : State → Meaning → List Order
-orders_kept s m = orders_left m s.settings.margin_percent (spot_of s) (mark_of s) s.lots s.orders s.states
+orders_kept s m = orders_spared m s.settings.margin_percent (spot_of s) (mark_of s) s.lots s.orders s.states
 
 -- a ledger after the review of all its accounts
 unfoldable pub reviewed : Meaning → State → State

@@ -1,6 +1,6 @@
 // Why a call is refused, before anything is written.
 ghost use Rattle.std.specs.Prelude.{◌≡◌, ℕ, ◌≤◌, true};
-ghost use Rattle.terms.specs.Codes.{side-of};
+ghost use Rattle.terms.specs.Codes.{side_of};
 ghost use Rattle.terms.specs.Refusals.{first, told, answer};
 ghost use Rattle.orders.specs.Orders.{lawful_order};
 ghost use Rattle.rules.specs.Calls.{withdraw_sentences, order_forms, order_sentences, plain_order, oversized, uncovered, exhausted};
@@ -9,11 +9,11 @@ ghost use Rattle.ledger.specs.View.{view};
 use crate::ledger::Ledger;
 use accounts::review::{is_open, is_sound};
 use accounts::withdrawals::exceeds;
-use arithmetic::margins::is_short_of;
 use book::Book;
 use lots::positions::position;
 use orders::Order;
 use orders::margins::{margin, ordered};
+use terms::margins::is_short_of;
 use terms::ranges::{
     ORDER_NUMBER_MAX, ORDER_QUANTITY_MAX, PAYMENT_MAX, POSITION_MAX, PRICE_MAX, PROPRIETARY,
     SEN_PER_YEN,
@@ -22,7 +22,7 @@ use terms::{Refusal, Side};
 
 // An order's account, side, price and quantity are ones that an order can have.
 pub(crate) fn admit_form(account: u8, side: u8, price: u32, quantity: u32) -> Result<Side, Refusal>
-    ensures { result ≡ told (first (order_forms account side price quantity)) (side-of side) }
+    ensures { result ≡ told (first (order_forms account side price quantity)) (side_of side) }
 {
     if account < PROPRIETARY {
         return Err(Refusal::AccountOutOfRange);

@@ -1,13 +1,13 @@
 use Rattle.std.proofs.Common.{◌≡◌, ℕ, ◌+◌, ◌-◌, ◌≤◌, Bool, true, false, not, [], ◌∷◌, length, drop, Option, sym, refl, ap, ◌∙◌, arith}
 use Rattle.std.proofs.lemmas.List.Edits.{length-remove}
 use Rattle.slots.specs.Items.{items, free}
-use Rattle.slots.proofs.Every.{every-kept}
+use Rattle.slots.proofs.Every.{every_kept}
 use Rattle.terms.specs.declared.refusal.Refusal.TheVariants.{OrderNotHeld}
 use Rattle.terms.specs.Refusals.{◌gives◌, first}
 use Rattle.orders.specs.declared.order.Order.{Order}
 use Rattle.orders.specs.Orders.{lawful_order, lawful_orders}
 use Rattle.orders.specs.Numbers.{held, is_plain, rising}
-use Rattle.orders.proofs.Numbers.{not_found, rising-kept}
+use Rattle.orders.proofs.Numbers.{not_found, rising_kept}
 use Rattle.rules.specs.Valuation.{reviewed}
 use Rattle.rules.specs.Calls.{cancel_call}
 use Rattle.rules.specs.State.{valued}
@@ -58,31 +58,17 @@ invariant_of-self g c =
     let os = items l.orders in
     let n = c.args.number in
     let h = held_at n c.in-Some.place 0 l.issued os (sym c.find.ensures ∙ c.in-Some.is) l.numbered in
-    let e = c.take_out.ensures.items ∙ h.left in (
-      l.timely,
-      (
-        l.spotted,
-        (
-          l.marked,
-          (
-            l.fewlots,
-            (
-              omega (arith, c.take_out.ensures.capacity, l.feworders),
-              (
-                l.lotslawful,
-                (
-                  ap lawful_orders e ∙ every-kept lawful_order _ os l.orderslawful,
-                  (
-                    ap (rising 0 l.issued) e ∙ rising-kept _ 0 l.issued os l.numbered,
-                    (ap (valued l.spot l.last (items l.lots)) e ∙ valued_kept _ l.spot l.last (items l.lots) os l.priced, tt),
-                  ),
-                ),
-              ),
-            ),
-          ),
-        ),
-      ),
-    )
+    let e = c.take_out.ensures.items ∙ h.left in record {
+      timely = l.timely;
+      spotted = l.spotted;
+      marked = l.marked;
+      fewlots = l.fewlots;
+      feworders = omega (arith, c.take_out.ensures.capacity, l.feworders);
+      lotslawful = l.lotslawful;
+      orderslawful = ap lawful_orders e ∙ every_kept lawful_order _ os l.orderslawful;
+      numbered = ap (rising 0 l.issued) e ∙ rising_kept _ 0 l.issued os l.numbered;
+      priced = ap (valued l.spot l.last (items l.lots)) e ∙ valued_kept _ l.spot l.last (items l.lots) os l.priced;
+    }
 
 pub returns : goal.returns
 returns g c =

@@ -10,28 +10,14 @@ use Rattle.ledger.proofs.ledger.Ledger.open.Goals as goal
 
 pub invariant_of-result : goal.invariant_of-result
 unfolding every rising
-invariant_of-result c = (
-  omega arith,
-  (
-    refl,
-    (
-      refl,
-      (
-        omega (arith, c.new-lots.ensures.capacity),
-        (
-          omega (arith, c.new-orders.ensures.capacity),
-          (
-            ap (lawful_lots 0) c.new-lots.ensures.items,
-            (
-              ap lawful_orders c.new-orders.ensures.items,
-              (
-                ap (rising 0 0) c.new-orders.ensures.items,
-                (ap (λ (ls : List Lot). valued None None ls (items c.new-orders.result)) c.new-lots.ensures.items ∙ ap (valued None None []) c.new-orders.ensures.items, tt),
-              ),
-            ),
-          ),
-        ),
-      ),
-    ),
-  ),
-)
+invariant_of-result c = record {
+  timely = omega arith;
+  spotted = refl;
+  marked = refl;
+  fewlots = omega (arith, c.new-lots.ensures.capacity);
+  feworders = omega (arith, c.new-orders.ensures.capacity);
+  lotslawful = ap (lawful_lots 0) c.new-lots.ensures.items;
+  orderslawful = ap lawful_orders c.new-orders.ensures.items;
+  numbered = ap (rising 0 0) c.new-orders.ensures.items;
+  priced = ap (λ (ls : List Lot). valued None None ls (items c.new-orders.result)) c.new-lots.ensures.items ∙ ap (valued None None []) c.new-orders.ensures.items;
+}

@@ -5,13 +5,13 @@ use Rattle.std.proofs.lemmas.Bool.{lt-ltb, cond-true}
 use Rattle.slots.specs.Items.{items, free, capacity}
 use Rattle.slots.proofs.Every.{every_push}
 use Rattle.terms.specs.declared.side.Side.{Side}
-use Rattle.terms.specs.Codes.{side-of}
+use Rattle.terms.specs.Codes.{side_of}
 use Rattle.terms.specs.Refusals.{first}
 use Rattle.terms.proofs.Refused as terms
 use Rattle.orders.specs.declared.order.Order.{Order}
 use Rattle.orders.specs.Orders.{lawful_order, lawful_orders}
 use Rattle.orders.specs.Numbers.{rising}
-use Rattle.orders.proofs.Numbers.{rising-push}
+use Rattle.orders.proofs.Numbers.{rising_push}
 use Rattle.rules.specs.State.{with_order}
 use Rattle.rules.specs.Valuation.{reviewed}
 use Rattle.rules.specs.Calls.{plain_order, next_order, order_forms, order_sentences, order_call}
@@ -33,7 +33,7 @@ returns-in_err-side g c =
     let q = c.args.quantity in
     let forms = order_forms a byte price q in
     let r = err_from_is_err_and c.from_residual.result c.from_residual.ensures.1 in
-    let why = told_err (first forms) (side-of byte) _ (sym c.admit_form.ensures ∙ c.in_err-side.was) in
+    let why = told_err (first forms) (side_of byte) _ (sym c.admit_form.ensures ∙ c.in_err-side.was) in
     refused 1 (order_call a byte price q (view l) m) _ c.from_residual.result l b b m m (first_before forms (order_sentences (next_order a byte price q (view l)) (view l) m) _ why) (r.1 ∙ ap Err r.2) refl refl
 
 pub returns-in_err-admit_order : goal.returns-in_err-admit_order
@@ -47,8 +47,8 @@ returns-in_err-admit_order g c =
     let q = c.args.quantity in
     let forms = order_forms a byte price q in
     let n = l.issued + 1 in
-    let form = told_ok (first forms) (side-of byte) _ (sym c.admit_form.ensures ∙ c.in_ok-side.was) in
-    let asked = order_sentences (plain_order n a (side-of byte) price q) (view l) m in
+    let form = told_ok (first forms) (side_of byte) _ (sym c.admit_form.ensures ∙ c.in_ok-side.was) in
+    let asked = order_sentences (plain_order n a (side_of byte) price q) (view l) m in
     let same = ap (λ (x : Side). first (order_sentences (plain_order n a x price q) (view l) m)) form.1 in
     let why = sym same ∙ terms.refused (first (order_sentences (plain_order n a c.in_ok-side.side price q) (view l) m)) _ (sym (c.admit_order.ensures n) ∙ c.in_err-admit_order.was) in
     let r = err_from_is_err_and c.from_residual-in_err-admit_order.result c.from_residual-in_err-admit_order.ensures.1 in
@@ -76,35 +76,21 @@ invariant_of-self g c =
     let os = items l.orders in
     let n = l.issued + 1 in
     let o = plain_order n c.args.account c.in_ok-side.side c.args.price c.args.quantity in
-    let form = told_ok (first (order_forms c.args.account c.args.side c.args.price c.args.quantity)) (side-of c.args.side) _ (sym c.admit_form.ensures ∙ c.in_ok-side.was) in
+    let form = told_ok (first (order_forms c.args.account c.args.side c.args.price c.args.quantity)) (side_of c.args.side) _ (sym c.admit_form.ensures ∙ c.in_ok-side.was) in
     let none = terms.taken (first (order_sentences o s m)) (sym (c.admit_order.ensures n) ∙ c.in_ok-admit_order.was) in
     let had = appended os (capacity l.orders) o c.append.result (admitted_room o s m none).0 c.append.ensures.value in
     let more = c.append.ensures.items ∙ cond-true (is_ok c.append.result) (os ++ o ∷ []) os had in
-    let fine = form_lawful n c.args.account c.args.side c.args.price c.args.quantity c.in_ok-side.side (omega (arith, c.ranges.account.fits)) form.0 in (
-      l.timely,
-      (
-        l.spotted,
-        (
-          l.marked,
-          (
-            l.fewlots,
-            (
-              omega (arith, c.append.ensures.capacity, l.feworders),
-              (
-                l.lotslawful,
-                (
-                  ap lawful_orders more ∙ every_push lawful_order os o l.orderslawful fine,
-                  (
-                    ap (rising 0 n) more ∙ rising-push 0 l.issued os o (omega arith) (omega arith) l.numbered,
-                    (valued_more l.spot l.last (items l.lots) os (items c.append.new.self) (admitted_spot o s m none) l.priced, tt),
-                  ),
-                ),
-              ),
-            ),
-          ),
-        ),
-      ),
-    )
+    let fine = form_lawful n c.args.account c.args.side c.args.price c.args.quantity c.in_ok-side.side (omega (arith, c.ranges.account.fits)) form.0 in record {
+      timely = l.timely;
+      spotted = l.spotted;
+      marked = l.marked;
+      fewlots = l.fewlots;
+      feworders = omega (arith, c.append.ensures.capacity, l.feworders);
+      lotslawful = l.lotslawful;
+      orderslawful = ap lawful_orders more ∙ every_push lawful_order os o l.orderslawful fine;
+      numbered = ap (rising 0 n) more ∙ rising_push 0 l.issued os o (omega arith) (omega arith) l.numbered;
+      priced = valued_more l.spot l.last (items l.lots) os (items c.append.new.self) (admitted_spot o s m none) l.priced;
+    }
 
 pub returns : goal.returns
 returns g c =
@@ -120,7 +106,7 @@ returns g c =
     let n = l.issued + 1 in
     let o = plain_order n a c.in_ok-side.side price q in
     let forms = order_forms a byte price q in
-    let form = told_ok (first forms) (side-of byte) _ (sym c.admit_form.ensures ∙ c.in_ok-side.was) in
+    let form = told_ok (first forms) (side_of byte) _ (sym c.admit_form.ensures ∙ c.in_ok-side.was) in
     let none = terms.taken (first (order_sentences o s m)) (sym (c.admit_order.ensures n) ∙ c.in_ok-admit_order.was) in
     let is : o ≡ next_order a byte price q s = ap (λ (x : Side). plain_order n a x price q) form.1 in
     let why = first_behind forms (order_sentences (next_order a byte price q s) s m) form.0 ∙ sym (ap (λ (x : Order). first (order_sentences x s m)) is) ∙ none in

@@ -1,4 +1,5 @@
-use Rattle.std.proofs.Common.{◌≡◌, ℕ, ◌+◌, ◌-◌, ◌≤◌, length, drop, refl, ap, ◌∙◌, arith}
+use Rattle.std.proofs.Common.{◌≡◌, ℕ, ◌+◌, ◌-◌, ◌<◌, ◌≤◌, length, drop, refl, ap, ◌∙◌, ⊎_elim, arith}
+use Rattle.std.proofs.lemmas.Bool.{cases_lt}
 use Rattle.orders.specs.Orders.{lawful_orders}
 use Rattle.orders.specs.Numbers.{rising}
 use Rattle.slots.specs.Items.{items, free, capacity}
@@ -16,31 +17,17 @@ invariant_of-self g c =
     let p = l.settings.margin_percent in
     let spot = c.spot_or_nought-spot.result in
     let mark = c.mark-mark.result in
-    let e = c.review.ensures.orders in (
-      l.timely,
-      (
-        l.spotted,
-        (
-          l.marked,
-          (
-            l.fewlots,
-            (
-              omega (arith, c.review.ensures.capacity, l.feworders),
-              (
-                l.lotslawful,
-                (
-                  ap lawful_orders e ∙ lawful_left m p spot mark s l.orderslawful,
-                  (
-                    ap (rising 0 l.issued) e ∙ rising_left m p spot mark 0 l.issued s l.numbered,
-                    (ap (valued l.spot l.last (items l.lots)) e ∙ valued_kept _ l.spot l.last (items l.lots) (items l.orders) l.priced, tt),
-                  ),
-                ),
-              ),
-            ),
-          ),
-        ),
-      ),
-    )
+    let e = c.review.ensures.orders in record {
+      timely = l.timely;
+      spotted = l.spotted;
+      marked = l.marked;
+      fewlots = l.fewlots;
+      feworders = omega (arith, c.review.ensures.capacity, l.feworders);
+      lotslawful = l.lotslawful;
+      orderslawful = ap lawful_orders e ∙ lawful_left m p spot mark s l.orderslawful;
+      numbered = ap (rising 0 l.issued) e ∙ rising_left m p spot mark 0 l.issued s l.numbered;
+      priced = ap (valued l.spot l.last (items l.lots)) e ∙ valued_kept _ l.spot l.last (items l.lots) (items l.orders) l.priced;
+    }
 
 pub returns : goal.returns
 returns g c =
@@ -52,6 +39,6 @@ returns g c =
     let none : 0 + before - after ≡ before - after = omega arith in
     record {
       view = is_reviewed m (view l) c.spot_or_nought-spot.result c.mark-mark.result c.spot_or_nought-spot.ensures.value c.mark-mark.ensures.value
-          (state_of c.review.new.accounts) (items c.review.new.orders) (capacity c.review.new.orders) c.review.ensures.states c.review.ensures.orders c.review.ensures.capacity;
+          (state_of c.review.new.accounts) (items c.review.new.orders) (capacity c.review.new.orders) (λ a. ⊎_elim (λ (h : a < 256). c.review.ensures.states a h) (λ (h : 256 ≤ a). c.review.ensures.past a h) (cases_lt a 256)) c.review.ensures.orders c.review.ensures.capacity;
       slots = record { lots = refl; few = few; orders = ap (λ (j : ℕ). drop j (free c.review.new.orders)) none ∙ c.review.ensures.free };
     }
