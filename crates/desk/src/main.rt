@@ -2,7 +2,8 @@
 #![tactic(auto)]
 
 use crate::serve::run;
-use std::io::BufReader;
+use std::io::{BufReader, Read};
+use std::process::ExitCode;
 use std::{env, fs, io};
 
 mod answer;
@@ -13,19 +14,27 @@ mod serve;
 mod several;
 mod totals;
 
-fn main(rt: HostRuntime) -> io::Result<()> {
-    match script_name(&rt) {
-        Ok(Some(name)) => run_file(&rt, name.as_str()),
-        Ok(None) => reported(
-            &rt,
-            "standard input",
-            run(&rt, BufReader::new(rt.alloc(), rt.stdin())?),
-        ),
+// What went wrong was said on standard error already.
+fn main(rt: HostRuntime) -> ExitCode {
+    match run_named(&rt) {
+        Ok(()) => ExitCode::SUCCESS,
+        Err(_) => ExitCode::FAILURE,
+    }
+}
+
+fn run_named(rt: &HostRuntime) -> io::Result<()> {
+    match script_name(rt) {
+        Ok(Some(name)) => run_file(rt, name.as_str()),
+        Ok(None) => reported(rt, "standard input", run_source(rt, rt.stdin())),
         Err(e) => {
             eprintln!(rt; "desk: {e}")?;
             Err(e)
         }
     }
+}
+
+fn run_source<R: Read + Drop>(rt: &HostRuntime, source: R) -> io::Result<()> {
+    run(rt, BufReader::new(rt.alloc(), source)?)
 }
 
 // The script's file, where one is named.
@@ -41,7 +50,7 @@ fn script_name(rt: &HostRuntime) -> io::Result<Option<String>> {
 
 fn run_file(rt: &HostRuntime, name: &str) -> io::Result<()> {
     match fs::open(rt, name) {
-        Ok(file) => reported(rt, name, run(rt, BufReader::new(rt.alloc(), file)?)),
+        Ok(file) => reported(rt, name, run_source(rt, file)),
         Err(e) => {
             eprintln!(rt; "desk: cannot open '{name}': {e}")?;
             Err(e)
