@@ -1,4 +1,4 @@
--- Division that rounds up, and numbers held within a bound. `/` rounds down, and `quot_z` of the library toward nought.
+-- Division that rounds up, and numbers held within a bound. `/` rounds down, and `int_div` of the library toward nought.
 use Rattle.std.specs.Prelude.{ℕ, suc, ◌+◌, ◌-◌, ◌/◌, min, ℤ, pos, negsuc, neg_ℤ}
 
 unfoldable pub ceiling : ℕ → ℕ → ℕ
