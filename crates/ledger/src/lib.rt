@@ -1,4 +1,6 @@
 // The ledger: what it holds, its calls and its queries.
+#![tactic(auto)]
+
 pub mod ledger;
 pub mod status;
 

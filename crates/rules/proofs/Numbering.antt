@@ -8,10 +8,10 @@ use Rattle.orders.proofs.Numbers.{rising_kept, rising_push, rising_at, rising_ap
 use Rattle.rules.specs.State.{State, with_spot, with_order, with_orders}
 use Rattle.rules.specs.Valuation.{decision, reviewed, call_cleared}
 use Rattle.rules.specs.Calls.{next_order}
-use Rattle.rules.specs.Laws.{Numbers-rise, CallsKeepNumbersApart, OrdersHaveTheNextNumber, NumberedOrdersAreApart}
+use Rattle.rules.specs.Laws.{NumbersRise, CallsKeepNumbersApart, OrdersHaveTheNextNumber, NumberedOrdersAreApart}
 
 -- a review after it
-then : (m : Meaning) (s t : State) → Numbers-rise s t → Numbers-rise s (reviewed m t)
+then : (m : Meaning) (s t : State) → NumbersRise s t → NumbersRise s (reviewed m t)
 unfolding reviewed
 then m s t r =
     record {
@@ -20,10 +20,10 @@ then m s t r =
     }
 
 -- no order comes and none goes
-same : (s t : State) → t.issued ≡ s.issued → t.orders ≡ s.orders → Numbers-rise s t
+same : (s t : State) → t.issued ≡ s.issued → t.orders ≡ s.orders → NumbersRise s t
 same s t i o = record { issued = omega arith; numbered = λ n. rw (i, o) n }
 
-cleared : (a : ℕ) (m : Meaning) (s : State) → Numbers-rise s (call_cleared a m s)
+cleared : (a : ℕ) (m : Meaning) (s : State) → NumbersRise s (call_cleared a m s)
 unfolding call_cleared
 cleared a m s = same s (call_cleared a m s) refl refl
 

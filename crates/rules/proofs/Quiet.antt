@@ -6,7 +6,7 @@ use Rattle.std.proofs.ByRecursion.{All-weaker, all_kept_by, kept_by_passes}
 use Rattle.std.proofs.lemmas.Int.{ints}
 use Rattle.std.proofs.lemmas.Bool.{cond_both, cond-true, true≢false, not-true}
 use Rattle.std.proofs.lemmas.Bool.Decides.{nat_tests}
-use Rattle.terms.specs.Margins.{requirement, short_of}
+use Rattle.terms.specs.Margins.{requirement}
 use Rattle.book.specs.Meaning.{Meaning}
 use Rattle.lots.specs.Worth.{units_of}
 use Rattle.orders.specs.declared.order.Order.{Order}
@@ -16,7 +16,7 @@ use Rattle.accounts.specs.declared.state.AccountState.TheVariants.{CutDue}
 use Rattle.accounts.specs.declared.standing.Decision.{Decision}
 use Rattle.accounts.specs.Review.{is_open, falls, lacks, decide}
 use Rattle.rules.specs.State.{State, with_orders}
-use Rattle.rules.specs.Valuation.{spot_of, mark_of, standing, decision, orders_kept, reviewed}
+use Rattle.rules.specs.Valuation.{spot_of, mark_of, standing, decision, reviewed}
 use Rattle.rules.proofs.Reviewing.{is_reviewed}
 
 -- fewer orders need no more margin

@@ -1,5 +1,5 @@
 -- What each call does: when it is refused, what it answers, and what ledger and book are after it.
-use Rattle.std.specs.Prelude.{ℕ, ◌+◌, ◌*◌, Bool, false, not, ◌&&◌, ◌||◌, ltb, List, [], ◌∷◌, ◌++◌, length, is_some, Option, ◌==◌, nat_eq, nat_le, nat_lt}
+use Rattle.std.specs.Prelude.{ℕ, ◌+◌, ◌*◌, Bool, false, not, ◌&&◌, ◌||◌, List, [], ◌∷◌, ◌++◌, length, is_some, Option, ◌==◌, nat_eq, nat_le, nat_lt}
 use Rattle.terms.specs.declared.refusal.Refusal.{Refusal}
 use Rattle.terms.specs.declared.refusal.Refusal.TheVariants.{AccountOutOfRange, CodeOutOfRange, PriceOutOfRange, QuantityOutOfRange, PaymentOutOfRange, NoSpotPrice, OrderNotHeld, WrongAccountState, PositionTooLarge, MarginTooSmall, NoSlotLeft, NoEntryLeft}
 use Rattle.terms.specs.declared.side.Side.{Side}
@@ -50,7 +50,7 @@ deposit_call a yen s m = record {
 -- yen are paid out
 abbrev pub withdraw_sentences : (account yen : ℕ) → State → Meaning → List Sentence
 withdraw_sentences a yen s m =
-    ltb a 2 gives AccountOutOfRange
+    nat_lt a 2 gives AccountOutOfRange
     ∷ not (between 1 payment_max yen) gives PaymentOutOfRange
     ∷ not (is_sound (s.states a)) gives WrongAccountState
     ∷ exceeds (100 * yen) (m.balance a) (standing s m a) gives MarginTooSmall
@@ -87,9 +87,9 @@ exhausted s = nat_le s.order_slots (length s.orders) || s.issued == order_number
 -- an order is entered; price 0 is for a market order
 abbrev pub order_forms : (account side price quantity : ℕ) → List Sentence
 order_forms a b price q =
-    ltb a 2 gives AccountOutOfRange
-    ∷ ltb 1 b gives CodeOutOfRange
-    ∷ ltb price_max price gives PriceOutOfRange
+    nat_lt a 2 gives AccountOutOfRange
+    ∷ nat_lt 1 b gives CodeOutOfRange
+    ∷ nat_lt price_max price gives PriceOutOfRange
     ∷ not (between 1 order_quantity_max q) gives QuantityOutOfRange
     ∷ []
 

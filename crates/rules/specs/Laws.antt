@@ -41,7 +41,7 @@ abbrev pub PassedOver : State → ℕ → Type 0
 PassedOver s a = (a ≡ 2) ⊎ (is_open (s.states a) ≡ false)
 
 -- what a review leaves alone: all but states and orders, and of the accounts that it passes over these too
-pub record Left-alone (m : Meaning) (s : State) : Type 0 where
+pub record LeftAlone (m : Meaning) (s : State) : Type 0 where
   pub settings : (reviewed m s).settings ≡ s.settings
   pub time : (reviewed m s).time ≡ s.time
   pub spot : (reviewed m s).spot ≡ s.spot
@@ -55,7 +55,7 @@ pub record Left-alone (m : Meaning) (s : State) : Type 0 where
   pub orders : (a : ℕ) → PassedOver s a → orders_of a (reviewed m s).orders ≡ orders_of a s.orders
 
 abbrev pub ReviewsAlterStatesAndOrders : Type 0
-ReviewsAlterStatesAndOrders = (m : Meaning) (s : State) → Left-alone m s
+ReviewsAlterStatesAndOrders = (m : Meaning) (s : State) → LeftAlone m s
 
 -- order n, which was held and is no cut order, is taken back
 pub record Cancelled (n : ℕ) (s : State) (m : Meaning) : Type 0 where
@@ -79,17 +79,17 @@ OrdersStayWithinTheLimit =
     → ordered_of a (side_of b) (order_call a b price q s m).state.orders + position_of a (side_of b) (order_call a b price q s m).state.lots ≤ position_max
 
 -- no number is given twice: the last that was given does not fall, and the orders stay numbered
-pub record Numbers-rise (before after : State) : Type 0 where
+pub record NumbersRise (before after : State) : Type 0 where
   pub issued : before.issued ≤ after.issued
   pub numbered : Numbered before → Numbered after
 
 -- over each call
 pub record CallsKeepNumbersApart : Type 0 where
-  pub spot : (price : ℕ) (s : State) (m : Meaning) → Taken (spot_call price s m) → Numbers-rise s (spot_call price s m).state
-  pub deposit : (a yen : ℕ) (s : State) (m : Meaning) → Taken (deposit_call a yen s m) → Numbers-rise s (deposit_call a yen s m).state
-  pub withdraw : (a yen : ℕ) (s : State) (m : Meaning) → Taken (withdraw_call a yen s m) → Numbers-rise s (withdraw_call a yen s m).state
-  pub order : (a b price q : ℕ) (s : State) (m : Meaning) → Taken (order_call a b price q s m) → Numbers-rise s (order_call a b price q s m).state
-  pub cancel : (n : ℕ) (s : State) (m : Meaning) → Taken (cancel_call n s m) → Numbers-rise s (cancel_call n s m).state
+  pub spot : (price : ℕ) (s : State) (m : Meaning) → Taken (spot_call price s m) → NumbersRise s (spot_call price s m).state
+  pub deposit : (a yen : ℕ) (s : State) (m : Meaning) → Taken (deposit_call a yen s m) → NumbersRise s (deposit_call a yen s m).state
+  pub withdraw : (a yen : ℕ) (s : State) (m : Meaning) → Taken (withdraw_call a yen s m) → NumbersRise s (withdraw_call a yen s m).state
+  pub order : (a b price q : ℕ) (s : State) (m : Meaning) → Taken (order_call a b price q s m) → NumbersRise s (order_call a b price q s m).state
+  pub cancel : (n : ℕ) (s : State) (m : Meaning) → Taken (cancel_call n s m) → NumbersRise s (cancel_call n s m).state
 
 -- an order has the number after the last, and that is the last from then on
 pub record Next (a b price q : ℕ) (s : State) (m : Meaning) : Type 0 where
