@@ -4,7 +4,9 @@
 usage: python3 tools/respell.py     at the top, right after port.py
 
 A name is the repository's own where a file of specs/ or proofs/ declares it; an answer to a goal keeps the goal's name.
-Functions of src/, strings and files keep their names. It stops where two names would fall together.
+It goes by text alone: a record with parameters is not seen, nor does it know a name from the same word in a string or in
+the code, so read the diff of src/. It prints each new spelling that stands somewhere already, as that of a function which
+a definition describes, and goes on: see that no two of those are the same kind of thing.
 """
 
 import os
@@ -66,17 +68,12 @@ def main():
         return 0
     for p in files((".antt", ".rt")):
         t = read(p)
-        u = TOKEN.sub(lambda m: new.get(m.group(0), m.group(0)), t) if p.endswith(".antt") else ghost(t, new)
+        u = TOKEN.sub(lambda m: new.get(m.group(0), m.group(0)), t)
         if u != t:
             with open(p, "w", encoding="utf-8") as f:
                 f.write(u)
     print(f"respelled {len(new)} names")
     return 0
-
-
-def ghost(t, new):
-    """In a source file only names with a hyphen, which no name of the program has, and imported ghost names."""
-    return TOKEN.sub(lambda m: new.get(m.group(0), m.group(0)) if "-" in m.group(0) or m.group(0) in new else m.group(0), t)
 
 
 if __name__ == "__main__":
