@@ -1,10 +1,12 @@
-ghost use Rattle.std.specs.Prelude.{◌≡◌, ℕ, if◌then◌else◌, nat_eq};
+ghost use Rattle.std.specs.Prelude.{◌≡◌, ℕ, ◌<◌, ◌≤◌, if◌then◌else◌, nat_eq, slice_index_or};
 ghost use Rattle.accounts.specs.declared.state.AccountState.TheVariants.{Sound};
+ghost use Rattle.accounts.specs.declared.standing.Decision.{Decision};
 ghost use Rattle.accounts.specs.States.{state_of};
 
+use crate::standing::Decision;
 use crate::state::AccountState;
 
-// The state of every account.
+// The state of every account. An array, since there are 256 accounts and the project keeps no heap.
 #[derive(Clone, Copy)]
 pub struct Accounts {
     states: [AccountState; 256],
@@ -31,5 +33,13 @@ impl Accounts {
         ensures { (a : ℕ) → state_of self.new a ≡ (if nat_eq account a then state else state_of self.old a) }
     {
         self.states[account as usize] = state;
+    }
+
+    // Puts every account into the state that was decided of it.
+    pub fn put(&mut self, decisions: &[Decision; 256])
+        ensures states { (a : ℕ) (d : Decision) → a < 256 → state_of self.new a ≡ (slice_index_or decisions.now a d).state }
+        ensures rest { (a : ℕ) → 256 ≤ a → state_of self.new a ≡ state_of self.old a }
+    {
+        self.states = decisions.map(|d| d.state);
     }
 }

@@ -10,23 +10,14 @@ use terms::ranges::PROPRIETARY;
 pub fn is_open(state: AccountState) -> bool
     ensures { result ≡ is_open state }
 {
-    match state {
-        AccountState::Sound | AccountState::Called { .. } => true,
-        AccountState::CutDue | AccountState::CutInHand { .. } | AccountState::CutOut => false,
-    }
+    matches!(state, AccountState::Sound | AccountState::Called { .. })
 }
 
 // Only a sound account may withdraw.
 pub fn is_sound(state: AccountState) -> bool
     ensures { result ≡ is_sound state }
 {
-    match state {
-        AccountState::Sound => true,
-        AccountState::Called { .. }
-        | AccountState::CutDue
-        | AccountState::CutInHand { .. }
-        | AccountState::CutOut => false,
-    }
+    matches!(state, AccountState::Sound)
 }
 
 // It holds lots, and equity is at or below 50 % of their requirement.
@@ -48,17 +39,17 @@ pub fn review(account: u8, state: AccountState, standing: Standing) -> Decision
     ensures { result ≡ reviewed account state standing }
 {
     if account == PROPRIETARY || !is_open(state) {
-        return Decision { state, void: false };
-    }
-    if falls(standing) {
-        return Decision {
+        Decision { state, void: false }
+    } else if falls(standing) {
+        Decision {
             state: AccountState::CutDue,
             void: true,
-        };
-    }
-    Decision {
-        state,
-        void: lacks(standing),
+        }
+    } else {
+        Decision {
+            state,
+            void: lacks(standing),
+        }
     }
 }
 
@@ -67,12 +58,9 @@ pub fn clear(state: AccountState, standing: Standing) -> AccountState
     ensures { result ≡ cleared state standing }
 {
     match state {
-        AccountState::Called { .. } => {
-            if standing.units == 0 || !is_short_of(standing.equity, standing.requirement) {
-                AccountState::Sound
-            } else {
-                state
-            }
+        AccountState::Called { .. }
+            if standing.units == 0 || !is_short_of(standing.equity, standing.requirement) => {
+            AccountState::Sound
         }
         _ => state,
     }

@@ -1,19 +1,8 @@
 use crate::accounts::Accounts;
 use crate::review::{clear, is_open, is_sound, review};
-use crate::standing::Standing;
+use crate::standing::{Decision, Standing};
 use crate::state::AccountState;
 use crate::withdrawals::exceeds;
-
-// A state by a word, for a test to compare.
-fn word(state: AccountState) -> &'static str {
-    match state {
-        AccountState::Sound => "sound",
-        AccountState::Called { .. } => "called",
-        AccountState::CutDue => "cut due",
-        AccountState::CutInHand { .. } => "cut in hand",
-        AccountState::CutOut => "cut out",
-    }
-}
 
 fn standing(equity: i64, requirement: u64, margin: u64, units: u32) -> Standing {
     Standing {
@@ -25,9 +14,12 @@ fn standing(equity: i64, requirement: u64, margin: u64, units: u32) -> Standing 
 }
 
 // Requirement 10 yen, whole margin 12 yen, and so many sen of equity.
-fn told(account: u8, state: AccountState, equity: i64, units: u32) -> (&'static str, bool) {
-    let d = review(account, state, standing(equity, 10, 12, units));
-    (word(d.state), d.void)
+fn told(account: u8, state: AccountState, equity: i64, units: u32) -> Decision {
+    review(account, state, standing(equity, 10, 12, units))
+}
+
+fn decided(state: AccountState, void: bool) -> Decision {
+    Decision { state, void }
 }
 
 #[test]
@@ -39,29 +31,37 @@ fn reviews_at_the_edges(rt: HostRuntime) {
     };
     assert_eq!(rt;
         told(3, sound, 1_200, 1),
-        ("sound", false),
+        decided(sound, false),
         "all of the margin"
     );
-    assert_eq!(rt; told(3, sound, 1_199, 1), ("sound", true), "a sen less");
+    assert_eq!(rt;
+        told(3, sound, 1_199, 1),
+        decided(sound, true),
+        "a sen less"
+    );
     assert_eq!(rt;
         told(3, called, 501, 1),
-        ("called", true),
+        decided(called, true),
         "above the cut level"
     );
     assert_eq!(rt;
         told(3, called, 500, 1),
-        ("cut due", true),
+        decided(AccountState::CutDue, true),
         "at the cut level"
     );
-    assert_eq!(rt; told(3, sound, 500, 0), ("sound", true), "without lots");
+    assert_eq!(rt;
+        told(3, sound, 500, 0),
+        decided(sound, true),
+        "without lots"
+    );
     assert_eq!(rt;
         told(2, sound, -1, 1),
-        ("sound", false),
+        decided(sound, false),
         "the proprietary account"
     );
     assert_eq!(rt;
         told(3, AccountState::CutOut, -1, 1),
-        ("cut out", false),
+        decided(AccountState::CutOut, false),
         "not reviewed"
     );
 }
@@ -72,26 +72,41 @@ fn calls_are_cleared(rt: HostRuntime) {
         day: 0,
         shortfall: 1,
     };
-    assert_eq!(rt; word(clear(called, standing(999, 10, 12, 1))), "called");
-    assert_eq!(rt; word(clear(called, standing(1_000, 10, 12, 1))), "sound");
+    assert_eq!(rt; clear(called, standing(999, 10, 12, 1)), called);
     assert_eq!(rt;
-        word(clear(called, standing(-1, 10, 12, 0))),
-        "sound",
+        clear(called, standing(1_000, 10, 12, 1)),
+        AccountState::Sound
+    );
+    assert_eq!(rt;
+        clear(called, standing(-1, 10, 12, 0)),
+        AccountState::Sound,
         "no lot left"
     );
     assert_eq!(rt;
-        word(clear(AccountState::CutDue, standing(1_000, 10, 12, 1))),
-        "cut due"
+        clear(AccountState::CutDue, standing(1_000, 10, 12, 1)),
+        AccountState::CutDue
     );
 }
 
 #[test]
 fn states_of_accounts(rt: HostRuntime) {
     let mut accounts = Accounts::new();
-    assert_eq!(rt; word(accounts.state(255)), "sound");
+    assert_eq!(rt; accounts.state(255), AccountState::Sound);
     accounts.set(255, AccountState::CutDue);
-    assert_eq!(rt; word(accounts.state(255)), "cut due");
-    assert_eq!(rt; word(accounts.state(254)), "sound");
+    assert_eq!(rt; accounts.state(255), AccountState::CutDue);
+    assert_eq!(rt; accounts.state(254), AccountState::Sound);
+}
+
+#[test]
+fn states_that_were_decided(rt: HostRuntime) {
+    let mut accounts = Accounts::new();
+    let mut decisions = [decided(AccountState::Sound, false); 256];
+    decisions[3] = decided(AccountState::CutDue, true);
+    decisions[255] = decided(AccountState::CutOut, false);
+    accounts.put(&decisions);
+    assert_eq!(rt; accounts.state(3), AccountState::CutDue);
+    assert_eq!(rt; accounts.state(4), AccountState::Sound);
+    assert_eq!(rt; accounts.state(255), AccountState::CutOut);
 }
 
 #[test]

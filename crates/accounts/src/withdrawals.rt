@@ -3,7 +3,7 @@ ghost use Rattle.accounts.specs.Withdrawals.{exceeds};
 
 use crate::standing::Standing;
 
-// The sen that equity leaves above 100 % of the margin; below nought they are missing.
+// The sen that equity leaves above 100 % of the margin; below nought they are missing. `terms` subtracts the other way round: either is shorter than the other negated.
 fn spare(equity: i64, margin: u64) -> i128
     ensures { result ≡ equity -ℤ pos (100 * margin) }
 {

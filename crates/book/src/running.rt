@@ -4,6 +4,7 @@ ghost use Rattle.book.specs.Meaning.{together};
 mod methods;
 
 // Keeps a balance for each account, and how many entries were made and are left.
+// The balances stand in an array, one at each account's number: the project has no heap, and its memory is fixed.
 #[derive(Drop)]
 pub struct RunningBook {
     balances: [i64; 256],

@@ -1,1 +1,2 @@
-pub mod Parsing
+pub mod Skipping
+pub mod Splitting

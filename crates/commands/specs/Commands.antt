@@ -8,7 +8,6 @@ use Rattle.commands.specs.declared.field.Field.TheVariants.{PointsRate, FundingD
 use Rattle.commands.specs.declared.opening.Kind.{Kind}
 use Rattle.commands.specs.declared.opening.Kind.TheVariants.{Running, Journal}
 use Rattle.commands.specs.declared.opening.Request.{Request}
-use Rattle.commands.specs.declared.verb.Named.TheVariants.{Offered}
 use Rattle.commands.specs.declared.verb.Verb.{Verb}
 use Rattle.commands.specs.declared.verb.Verb.TheVariants as verb
 use Rattle.commands.specs.Fields.{field_max}
@@ -38,10 +37,10 @@ pub record Requested (r g k p lots orders kind entries : List ℕ) (q : Request)
   pub divisor : Writes FundingDivisor g q.funding_divisor
   pub cap_of : Writes FundingCap k q.funding_cap
   pub percent : Writes MarginPercent p q.margin_percent
-  pub lots_of : Writes Lots lots q.lots
-  pub orders_of : Writes Orders orders q.orders
-  pub kind_of : kind_read kind ≡ Some q.kind
-  pub entries_of : Writes Entries entries q.entries
+  pub lots_of : Writes Lots lots q.layout.lots
+  pub orders_of : Writes Orders orders q.layout.orders
+  pub kind_of : kind_read kind ≡ Some q.layout.kind
+  pub entries_of : Writes Entries entries q.layout.entries
 
 -- the texts of the fields after a command's word, and the command
 abbrev pub Filled : List (List ℕ) → Command → Type 0
@@ -53,7 +52,7 @@ Filled fs (Work w) = Asked fs w
 
 -- the words of a line, and the command that they write
 pub record Written (ws : List (List ℕ)) (c : Command) : Type 0 where
-  pub word : names (slice_index_or ws 0 []) ≡ Offered (verb_of c)
+  pub word : names (slice_index_or ws 0 []) ≡ Some (Some (verb_of c))
   pub fields : Filled (drop 1 ws) c
 
 -- a line holds no command, or the one that its words write

@@ -1,10 +1,9 @@
 -- The reasons that unreadable words and fields are given.
-use Rattle.std.specs.Prelude.{◌≡◌, ℕ, List, None, Err, IsUtf8}
+use Rattle.std.specs.Prelude.{◌≡◌, ℕ, List, Some, None, Err, IsUtf8}
 use Rattle.commands.specs.declared.field.Field.{Field}
 use Rattle.workings.specs.declared.number.NumberFault.TheVariants as fault
 use Rattle.commands.specs.declared.unreadable.Unreadable.{Unreadable}
 use Rattle.commands.specs.declared.unreadable.Unreadable.TheVariants.{NotText, NoCommand, NotOffered, WrongCount, NoNumber, TooLarge, NoKind, Work}
-use Rattle.commands.specs.declared.verb.Named.TheVariants.{Later, Nothing}
 use Rattle.commands.specs.Commands.{kind_read}
 use Rattle.commands.specs.Fields.{field_max}
 use Rattle.workings.specs.Numbers.{number_read}
@@ -24,8 +23,8 @@ NoText line (Work e) = ⊥
 -- why the first word of a line names no command that is offered
 abbrev pub NoVerb : List ℕ → Unreadable → Type 0
 NoVerb w NotText = ⊥
-NoVerb w (NoCommand t) = (t.now ≡ w) × (names w ≡ Nothing)
-NoVerb w (NotOffered t) = (t.now ≡ w) × (names w ≡ Later)
+NoVerb w (NoCommand t) = (t.now ≡ w) × (names w ≡ None)
+NoVerb w (NotOffered t) = (t.now ≡ w) × (names w ≡ Some None)
 NoVerb w (WrongCount v n) = ⊥
 NoVerb w (NoNumber f t) = ⊥
 NoVerb w (TooLarge f t) = ⊥

@@ -9,7 +9,7 @@ request_lawful q = settings_lawful q.points_rate q.funding_divisor q.funding_cap
 
 pub record Admitted (q : Request) (o : Opening) : Type 0 where
   pub settings : Holds q.points_rate q.funding_divisor q.funding_cap q.margin_percent o.settings
-  pub lots : o.lots ≡ q.lots
-  pub orders : o.orders ≡ q.orders
-  pub kind : o.kind ≡ q.kind
-  pub entries : o.entries ≡ q.entries
+  pub lots : o.layout.lots ≡ q.layout.lots
+  pub orders : o.layout.orders ≡ q.layout.orders
+  pub kind : o.layout.kind ≡ q.layout.kind
+  pub entries : o.layout.entries ≡ q.layout.entries

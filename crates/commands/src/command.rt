@@ -1,15 +1,14 @@
 // Reads the words of a line as a command.
-ghost use Rattle.std.specs.Prelude.{◌≡◌, IfOk, Some, MatchResult};
-ghost use Rattle.commands.specs.declared.verb.Named.TheVariants.{Offered};
-ghost use Rattle.commands.specs.Commands.{verb_of, kind_read, Writes, Requested, Filled, Written};
-ghost use Rattle.commands.specs.Faults.{NoVerb, NoField, NoKindWord};
+ghost use Rattle.std.specs.Prelude.{◌≡◌, IfOk, MatchResult};
+ghost use Rattle.commands.specs.declared.command.Command.TheVariants as command;
+ghost use Rattle.commands.specs.Commands.{verb_of, Writes, Filled, Written};
+ghost use Rattle.commands.specs.Faults.{NoField};
 ghost use Rattle.workings.specs.Lines.{texts};
-ghost use Rattle.commands.specs.Verbs.{names};
 
 use crate::field::Field;
-use crate::opening::{Kind, Request};
+use crate::opening::{Kind, Layout, Request};
 use crate::unreadable::Unreadable;
-use crate::verb::{Named, Verb, look_up};
+use crate::verb::Verb;
 use workings::asking::read_working;
 use workings::number::{NumberFault, read_number};
 use workings::working::Working;
@@ -23,25 +22,15 @@ pub enum Command {
     Work(Working),
 }
 
-// The command that the words of a line write.
+// The command that the words of a line write. `read_working` begins alike; one function for both would take the two types, the fault of no word and what reads the fields.
 pub fn parse<'a>(words: &[&'a str]) -> Result<Command, Unreadable<'a>>
     ensures { IfOk result (Written (texts words.now)) }
 {
-    let [word, fields @ ..] = words else {
+    let Some((word, fields)) = words.split_first() else {
         return Err(Unreadable::NoCommand(""));
     };
-    let verb = read_verb(word)?;
+    let verb = Verb::try_from(*word)?;
     read_fields(verb, fields)
-}
-
-fn read_verb(word: &str) -> Result<Verb, Unreadable<'_>>
-    ensures { MatchResult result (λ v. names word.now ≡ Offered v) (NoVerb word.now) }
-{
-    match look_up(word) {
-        Named::Offered(verb) => Ok(verb),
-        Named::Later => Err(Unreadable::NotOffered(word)),
-        Named::Nothing => Err(Unreadable::NoCommand(word)),
-    }
 }
 
 fn read_fields<'a>(verb: Verb, fields: &[&'a str]) -> Result<Command, Unreadable<'a>>
@@ -49,75 +38,53 @@ fn read_fields<'a>(verb: Verb, fields: &[&'a str]) -> Result<Command, Unreadable
     ensures fields { IfOk result (Filled (texts fields.now)) }
 {
     match (verb, fields) {
-        (Verb::Open, [r, g, k, p, lots, orders, kind, entries]) => {
-            Ok(Command::Open(read_request(r, g, k, p, lots, orders, kind, entries)?))
-        }
-        (Verb::Deposit, [account, yen]) => {
-            let account = read_field(Field::Account, account)? as u8;
-            let yen = read_field(Field::Yen, yen)?;
-            Ok(Command::Deposit { account, yen })
-        }
+        (Verb::Open, _) => read_request(fields).map(Command::Open),
+        (Verb::Deposit, [account, yen]) => Ok(Command::Deposit {
+            account: read_field(Field::Account, account)? as u8,
+            yen: read_field(Field::Yen, yen)?,
+        }),
         (Verb::State, []) => Ok(Command::State),
         (Verb::Statement, []) => Ok(Command::Statement),
-        (Verb::Work, _) => match read_working(fields) {
-            Ok(working) => Ok(Command::Work(working)),
-            Err(why) => Err(Unreadable::Work(why)),
-        },
-        _ => Err(Unreadable::WrongCount {
-            verb,
-            given: fields.len(),
-        }),
+        (Verb::Work, _) => read_working(fields)
+            .map(Command::Work)
+            .map_err(Unreadable::Work),
+        _ => Err(wrong_count(verb, fields)),
     }
 }
 
-fn read_request<'a>(
-    r: &'a str,
-    g: &'a str,
-    k: &'a str,
-    p: &'a str,
-    lots: &'a str,
-    orders: &'a str,
-    kind: &'a str,
-    entries: &'a str,
-) -> Result<Request, Unreadable<'a>>
-    ensures { IfOk result (Requested r.now g.now k.now p.now lots.now orders.now kind.now entries.now) }
+fn read_request<'a>(fields: &[&'a str]) -> Result<Request, Unreadable<'a>>
+    ensures { IfOk result (λ q. Filled (texts fields.now) (command.Open q)) }
 {
-    let points_rate = read_field(Field::PointsRate, r)? as u32;
-    let funding_divisor = read_field(Field::FundingDivisor, g)? as u32;
-    let funding_cap = read_field(Field::FundingCap, k)? as u32;
-    let margin_percent = read_field(Field::MarginPercent, p)? as u32;
-    let lots = read_field(Field::Lots, lots)? as usize;
-    let orders = read_field(Field::Orders, orders)? as usize;
-    let kind = read_kind(kind)?;
-    let entries = read_field(Field::Entries, entries)? as usize;
+    let [r, g, k, p, lots, orders, kind, entries] = fields else {
+        return Err(wrong_count(Verb::Open, fields));
+    };
     Ok(Request {
-        points_rate,
-        funding_divisor,
-        funding_cap,
-        margin_percent,
-        lots,
-        orders,
-        kind,
-        entries,
+        points_rate: read_field(Field::PointsRate, r)? as u32,
+        funding_divisor: read_field(Field::FundingDivisor, g)? as u32,
+        funding_cap: read_field(Field::FundingCap, k)? as u32,
+        margin_percent: read_field(Field::MarginPercent, p)? as u32,
+        layout: Layout {
+            lots: read_field(Field::Lots, lots)? as usize,
+            orders: read_field(Field::Orders, orders)? as usize,
+            kind: Kind::try_from(*kind)?,
+            entries: read_field(Field::Entries, entries)? as usize,
+        },
     })
 }
 
-fn read_field(field: Field, text: &str) -> Result<u64, Unreadable<'_>>
-    ensures { MatchResult result (Writes field text.now) (NoField field text.now) }
-{
-    match read_number(text, field.max()) {
-        Ok(n) => Ok(n),
-        Err(NumberFault::NoNumber) => Err(Unreadable::NoNumber { field, text }),
-        Err(NumberFault::TooLarge) => Err(Unreadable::TooLarge { field, text }),
+fn wrong_count<'a>(verb: Verb, fields: &[&'a str]) -> Unreadable<'a> {
+    Unreadable::WrongCount {
+        verb,
+        given: fields.len(),
     }
 }
 
-fn read_kind(text: &str) -> Result<Kind, Unreadable<'_>>
-    ensures { MatchResult result (λ k. kind_read text.now ≡ Some k) (NoKindWord text.now) }
+// As a figure is read, but with a fault of this crate's own for each reason.
+fn read_field(field: Field, text: &str) -> Result<u64, Unreadable<'_>>
+    ensures { MatchResult result (Writes field text.now) (NoField field text.now) }
 {
-    match text {
-        "running" => Ok(Kind::Running),
-        "journal" => Ok(Kind::Journal),
-        _ => Err(Unreadable::NoKind(text)),
-    }
+    read_number(text, field.max()).map_err(|fault| match fault {
+        NumberFault::NoNumber => Unreadable::NoNumber { field, text },
+        NumberFault::TooLarge => Unreadable::TooLarge { field, text },
+    })
 }

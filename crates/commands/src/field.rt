@@ -2,7 +2,9 @@
 ghost use Rattle.std.specs.Prelude.{◌≡◌};
 ghost use Rattle.commands.specs.Fields.{field_name, field_max};
 
-#[derive(Clone, Copy)]
+use std::fmt;
+
+#[derive(Clone, Copy, Debug)]
 pub enum Field {
     PointsRate,
     FundingDivisor,
@@ -21,6 +23,7 @@ pub enum Field {
 const ASKED_MAX: u64 = 1_000_000;
 
 impl Field {
+    // No text is searched for among these names, so a field is no `Keyword`; what is over fields and figures alike, `listed::Fields`, asks only for `Display`, which writes the name that the contract is over.
     pub(crate) fn name(self) -> &'static str
         ensures { result.now ≡ field_name self }
     {
@@ -39,7 +42,7 @@ impl Field {
         }
     }
 
-    // The largest number that the field takes. KIND and TOPIC are words, and take none.
+    // The largest number that the field takes. KIND and TOPIC are words, and take none; an `Option` would have to be opened at each of the others.
     pub(crate) fn max(self) -> u64
         ensures { result ≡ field_max self }
     {
@@ -51,5 +54,11 @@ impl Field {
             Field::Yen => 18_446_744_073_709_551_615,
             Field::Kind | Field::Topic => 0,
         }
+    }
+}
+
+impl fmt::Display for Field {
+    fn fmt<W: fmt::Write>(&self, f: &mut fmt::Formatter<W>) -> fmt::Result {
+        f.write_str(self.name())
     }
 }

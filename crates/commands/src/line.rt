@@ -10,30 +10,19 @@ use std::alloc::{AllocError, Global};
 pub fn is_skipped(line: &[u8]) -> bool
     ensures { result ≡ skipped line.now }
 {
-    for b in line {
-        if !b.is_ascii_whitespace() {
-            return *b == b'#';
-        }
-    }
-    true
+    let first = line.iter().find(|b| !b.is_ascii_whitespace());
+    first.is_none_or(|b| *b == b'#')
 }
 
 pub fn text_of(line: &[u8]) -> Result<&str, Unreadable<'_>>
     ensures { MatchResult result (λ t. t.now ≡ line.now) (NoText line.now) }
 {
-    match std::str::from_utf8(line) {
-        Ok(text) => Ok(text),
-        Err(_) => Err(Unreadable::NotText),
-    }
+    std::str::from_utf8(line).map_err(|_| Unreadable::NotText)
 }
 
 // The parts of a text between white space.
 pub fn split(heap: Global, text: &str) -> Result<Vec<&str>, AllocError>
     ensures { IfOk result (λ v. Words text.now (texts v.items)) }
 {
-    let mut words = Vec::new(heap);
-    for word in text.split_whitespace() {
-        words.push(word)?;
-    }
-    Ok(words)
+    text.split_whitespace().collect(heap)
 }

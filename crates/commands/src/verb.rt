@@ -1,11 +1,15 @@
 // The table of commands: the words that begin a line, and the fields that follow each.
-ghost use Rattle.std.specs.Prelude.{◌≡◌};
-ghost use Rattle.commands.specs.Verbs.{names, word_of, fields_of};
+ghost use Rattle.std.specs.Prelude.{◌≡◌, Some, MatchResult};
+ghost use Rattle.commands.specs.Faults.{NoVerb};
+ghost use Rattle.commands.specs.Verbs.{names, verbs, word_of, verbs_apart, fields_of};
 
 use crate::field::Field;
+use crate::unreadable::Unreadable;
+use std::fmt;
+use workings::keyword::{Keyword, named};
 
-// A command that is offered. A new one takes a variant, its place in `OFFERED`, its word in `look_up` and `word`, and its fields.
-#[derive(Clone, Copy)]
+// A command that is offered. A new one takes a variant, its place in `OFFERED`, its word and its fields.
+#[derive(Clone, Copy, Debug)]
 pub enum Verb {
     Open,
     Deposit,
@@ -14,6 +18,7 @@ pub enum Verb {
     Work,
 }
 
+// An enum doesn't list its variants.
 pub static OFFERED: [Verb; 5] = [
     Verb::Open,
     Verb::Deposit,
@@ -22,34 +27,18 @@ pub static OFFERED: [Verb; 5] = [
     Verb::Work,
 ];
 
-// What a word names.
-#[derive(Clone, Copy)]
-pub enum Named {
-    Offered(Verb),
-    // a command of the whole format that this desk does not take yet
-    Later,
-    Nothing,
-}
+impl Keyword for Verb {
+    ghost all = { verbs };
 
-pub(crate) fn look_up(word: &str) -> Named
-    ensures { result ≡ names word.now }
-{
-    match word {
-        "open" => Named::Offered(Verb::Open),
-        "deposit" => Named::Offered(Verb::Deposit),
-        "state" => Named::Offered(Verb::State),
-        "statement" => Named::Offered(Verb::Statement),
-        "work" => Named::Offered(Verb::Work),
-        "clock" | "spot" | "withdraw" | "order" | "cancel" | "fill" | "reopen" | "cut" | "answer" =>
-            Named::Later,
-        _ => Named::Nothing,
+    ghost word = { word_of };
+
+    ghost apart = { verbs_apart };
+
+    fn all() -> &'static [Verb] {
+        &OFFERED
     }
-}
 
-impl Verb {
-    pub(crate) fn word(self) -> &'static str
-        ensures { result.now ≡ word_of self }
-    {
+    fn word(self) -> &'static str {
         match self {
             Verb::Open => "open",
             Verb::Deposit => "deposit",
@@ -58,7 +47,40 @@ impl Verb {
             Verb::Work => "work",
         }
     }
+}
 
+// Commands of the whole format that this desk does not take yet are told from words that name none.
+impl<'a> TryFrom<&'a str> for Verb {
+    type Error = Unreadable<'a>;
+
+    fn try_from(word: &'a str) -> Result<Verb, Unreadable<'a>>
+        ensures { MatchResult result (λ v. names word.now ≡ Some (Some v)) (NoVerb word.now) }
+    {
+        if let Some(verb) = named(word) {
+            return Ok(verb);
+        }
+        match word {
+            "clock"
+            | "spot"
+            | "withdraw"
+            | "order"
+            | "cancel"
+            | "fill"
+            | "reopen"
+            | "cut"
+            | "answer" => Err(Unreadable::NotOffered(word)),
+            _ => Err(Unreadable::NoCommand(word)),
+        }
+    }
+}
+
+impl fmt::Display for Verb {
+    fn fmt<W: fmt::Write>(&self, f: &mut fmt::Formatter<W>) -> fmt::Result {
+        f.write_str(self.word())
+    }
+}
+
+impl Verb {
     // After the topic of a `work` come the topic's own fields.
     pub(crate) fn fields(self) -> &'static [Field]
         ensures { result.now ≡ fields_of self }

@@ -1,17 +1,11 @@
--- What the desk answers to a call, and what it counts.
+-- What the desk counts of a call.
 use Rattle.std.specs.Prelude.{cond, Some, None, Option}
 use Rattle.terms.specs.declared.refusal.Refusal.{Refusal}
 use Rattle.terms.specs.declared.refusal.Refusal.TheVariants.{SettingOutOfRange}
-use Rattle.desk.specs.declared.answer.Answer.{Answer}
-use Rattle.desk.specs.declared.answer.Answer.TheVariants.{Taken, Refused}
 use Rattle.desk.specs.declared.counts.Counts.{Counts}
 use Rattle.commands.specs.declared.opening.Request.{Request}
 use Rattle.desk.specs.Counting.{one_taken, one_refused}
 use Rattle.commands.specs.Openings.{request_lawful}
-
-abbrev pub answered : Option Refusal → Answer
-answered None = Taken
-answered (Some e) = Refused e
 
 abbrev pub counted : Option Refusal → Counts → Counts
 counted None c = one_taken c

@@ -1,4 +1,4 @@
--- What a command asks for, what it does to the book that is served, to the counts, and to which opening it leads.
+-- What a command does to the book that is served, to the counts, and to which opening it leads.
 use Rattle.std.specs.Prelude.{◌≡◌, false, None, Option, MatchOption}
 use Rattle.book.specs.Meaning.{Meaning}
 use Rattle.book.specs.Deposits.{deposit_refusal, deposited}
@@ -9,15 +9,6 @@ use Rattle.commands.specs.declared.opening.Opening.{Opening}
 use Rattle.desk.specs.Answers.{counted, open_counted}
 use Rattle.desk.specs.Counting.{one_early}
 use Rattle.commands.specs.Openings.{request_lawful, Admitted}
-use Rattle.workings.specs.Workings.{InRange}
-
--- every number of a `work` lies within its range
-abbrev pub Workable : Command → Type 0
-Workable (Open q) = Unit {0}
-Workable (Deposit a y) = Unit {0}
-Workable State = Unit {0}
-Workable Statement = Unit {0}
-Workable (Work w) = InRange w
 
 -- only a deposit changes the book
 abbrev pub commanded : Meaning → Command → Meaning

@@ -4,12 +4,11 @@
 use crate::serve::run;
 use std::io::{BufReader, Read};
 use std::process::ExitCode;
-use std::{env, fs, io};
+use std::{env, fmt, fs, io};
 
 mod answer;
 mod counts;
 mod report;
-mod script;
 mod serve;
 mod several;
 mod totals;
@@ -23,18 +22,10 @@ fn main(rt: HostRuntime) -> ExitCode {
 }
 
 fn run_named(rt: &HostRuntime) -> io::Result<()> {
-    match script_name(rt) {
-        Ok(Some(name)) => run_file(rt, name.as_str()),
-        Ok(None) => reported(rt, "standard input", run_source(rt, rt.stdin())),
-        Err(e) => {
-            eprintln!(rt; "desk: {e}")?;
-            Err(e)
-        }
+    match told(rt, "", script_name(rt))? {
+        Some(name) => run_file(rt, name.as_str()),
+        None => run_source(rt, "standard input", rt.stdin()),
     }
-}
-
-fn run_source<R: Read + Drop>(rt: &HostRuntime, source: R) -> io::Result<()> {
-    run(rt, BufReader::new(rt.alloc(), source)?)
 }
 
 // The script's file, where one is named.
@@ -49,22 +40,31 @@ fn script_name(rt: &HostRuntime) -> io::Result<Option<String>> {
 }
 
 fn run_file(rt: &HostRuntime, name: &str) -> io::Result<()> {
-    match fs::open(rt, name) {
-        Ok(file) => reported(rt, name, run_source(rt, file)),
-        Err(e) => {
-            eprintln!(rt; "desk: cannot open '{name}': {e}")?;
-            Err(e)
-        }
-    }
+    let file = told(
+        rt,
+        format_args!("cannot open '{name}': "),
+        fs::open(rt, name),
+    )?;
+    run_source(rt, name, file)
 }
 
-// Says on standard error why a run ended early.
-fn reported(rt: &HostRuntime, name: &str, res: io::Result<()>) -> io::Result<()> {
-    match res {
-        Ok(()) => Ok(()),
-        Err(e) => {
-            eprintln!(rt; "desk: the run of '{name}' ended early: {e}")?;
-            Err(e)
-        }
+fn run_source<R: Read + Drop>(rt: &HostRuntime, name: &str, source: R) -> io::Result<()> {
+    let res = run_buffered(rt, source);
+    told(rt, format_args!("the run of '{name}' ended early: "), res)
+}
+
+fn run_buffered<R: Read + Drop>(rt: &HostRuntime, source: R) -> io::Result<()> {
+    run(rt, BufReader::new(rt.alloc(), source)?)
+}
+
+// Says on standard error what failed, and why.
+fn told<T: Drop, S: fmt::Display + Drop>(
+    rt: &HostRuntime,
+    step: S,
+    res: io::Result<T>,
+) -> io::Result<T> {
+    if let Err(why) = &res {
+        eprintln!(rt; "desk: {step}{why}")?;
     }
+    res
 }

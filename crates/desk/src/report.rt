@@ -9,12 +9,11 @@ use terms::ranges::{COMPANY, PROPRIETARY};
 use workings::money::Yen;
 
 pub(crate) fn write_state<B: Book>(rt: &HostRuntime, book: &B) -> io::Result<()> {
-    for account in 0..=255u8 {
-        let sen = book.balance(account);
-        if sen != 0 {
-            println!(rt; "balance {account} {sen}")?;
-        }
-    }
+    for_balances(
+        book,
+        0,
+        |account, sen| println!(rt; "balance {account} {sen}"),
+    )?;
     println!(rt; "made {}", book.made())?;
     println!(rt; "left {}", book.left())?;
     println!(rt; "end")
@@ -22,16 +21,32 @@ pub(crate) fn write_state<B: Book>(rt: &HostRuntime, book: &B) -> io::Result<()>
 
 pub(crate) fn write_statement<B: Book>(rt: &HostRuntime, book: &B) -> io::Result<()> {
     println!(rt; "# {:>17}  {:>26}", "account", "yen")?;
-    for account in 1..=255u8 {
-        let sen = book.balance(account);
-        if sen != 0 {
-            write_account(rt, account, sen)?;
-        }
-    }
+    for_balances(
+        book,
+        COMPANY,
+        |account, sen| write_account(rt, account, sen),
+    )?;
     let totals = sums(book);
     write_row(rt, "the accounts hold", totals.held)?;
     write_row(rt, "the bank owes", totals.owed)?;
     println!(rt; "# {}", totals.verdict())
+}
+
+// Writes each account from the first on whose balance is not nought.
+fn for_balances<B: Book, F: FnMut(u8, i64) -> io::Result<()>>(
+    book: &B,
+    first: u8,
+    mut write: F,
+) -> io::Result<()>
+    requires { (state : F) (account : _) (sen : _) → F.pre state account sen }
+{
+    for account in first..=255 {
+        let sen = book.balance(account);
+        if sen != 0 {
+            write(account, sen)?;
+        }
+    }
+    Ok(())
 }
 
 fn write_account(rt: &HostRuntime, account: u8, sen: i64) -> io::Result<()> {
@@ -50,6 +65,7 @@ fn write_row(rt: &HostRuntime, name: &str, sen: i128) -> io::Result<()> {
     println!(rt; "# {name:>17}  {amount:>26}")
 }
 
+// Handle and counts, here and below, and no `Desk`: nothing here answers.
 pub(crate) fn write_closing<B: Book>(
     rt: &HostRuntime,
     opening: &Opening,
@@ -79,15 +95,15 @@ pub(crate) fn write_no_ledger(rt: &HostRuntime, counts: &Counts) -> io::Result<(
 
 fn write_opening(rt: &HostRuntime, opening: &Opening) -> io::Result<()> {
     let settings = opening.settings;
-    println!(rt; "# closed: a {} book", opening.kind)?;
+    println!(rt; "# closed: a {} book", opening.layout.kind)?;
     println!(rt;
         "# points rate {}, funding divisor {}, funding cap {}, margin {} percent; slots: {} for lots, {} for orders",
         settings.points_rate(),
         settings.funding_divisor(),
         settings.funding_cap(),
         settings.margin_percent(),
-        opening.lots,
-        opening.orders,
+        opening.layout.lots,
+        opening.layout.orders,
     )
 }
 
@@ -103,7 +119,7 @@ fn write_counts(rt: &HostRuntime, counts: &Counts) -> io::Result<()> {
             println!(rt;
                 "#   {} refused with {}: {why}",
                 Several(count, Noun::Call),
-                why.number()
+                u8::from(why)
             )?;
         }
     }

@@ -17,6 +17,7 @@ pub enum Noun {
 #[derive(Clone, Copy)]
 pub struct Several(pub u64, pub Noun);
 
+// Two words for each noun: the plurals follow no one rule.
 impl Noun {
     fn word(self, is_one: bool) -> &'static str
         ensures { result.now ≡ noun_for self is_one }

@@ -9,23 +9,23 @@ use Rattle.ledger.specs.declared.status.Status.{Status}
 abbrev pub view : Ledger → State
 view l = record {
   settings = l.settings;
-  time = l.time;
+  time = l.lots.time;
   spot = l.spot;
   last = l.last;
   halt = l.halt;
   issued = l.issued;
   states = state_of l.accounts;
-  lots = items l.lots;
-  orders = items l.orders;
-  lot_slots = capacity l.lots;
-  order_slots = capacity l.orders;
+  lots = items l.lots.list;
+  orders = items l.orders.list;
+  lot_slots = capacity l.lots.list;
+  order_slots = capacity l.orders.list;
 }
 
 -- at most n orders came, and past the records no slot has changed but for those that they took
 pub record Untouched (n : ℕ) (l l' : Ledger) : Type 0 where
-  pub lots : free l'.lots ≡ free l.lots
-  pub few : length (items l'.orders) ≤ n + length (items l.orders)
-  pub orders : drop (n + length (items l.orders) - length (items l'.orders)) (free l'.orders) ≡ drop n (free l.orders)
+  pub lots : free l'.lots.list ≡ free l.lots.list
+  pub few : length (items l'.orders.list) ≤ n + length (items l.orders.list)
+  pub orders : drop (n + length (items l.orders.list) - length (items l'.orders.list)) (free l'.orders.list) ≡ drop n (free l.orders.list)
 
 -- its numbers at a glance
 abbrev pub status_of : State → Status

@@ -1,4 +1,4 @@
--- What the test of a lawful lot says.
+-- What the test of a lawful lot says. Orders have their own: the tests differ, and a part in common would be cited beside the rest of each.
 use Rattle.std.proofs.Common.{◌≡◌, ℕ, ◌*◌, ◌≤◌, true, nat_abs, arith}
 use Rattle.std.proofs.lemmas.Nat.{mul-le}
 use Rattle.std.proofs.lemmas.Bool.Decides.{nat_tests}

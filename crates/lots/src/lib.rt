@@ -2,7 +2,10 @@
 #![tactic(auto)]
 
 pub mod holding;
+pub mod laws;
+pub mod lots;
 pub mod positions;
 pub mod valuation;
 
 pub use holding::Holding;
+pub use lots::Lots;

@@ -3,10 +3,12 @@
 
 pub mod margins;
 pub mod order;
+pub mod orders;
 pub mod search;
 pub mod voids;
 
 pub use order::Order;
+pub use orders::Orders;
 
 #[cfg(test)]
 mod tests;

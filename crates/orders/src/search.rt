@@ -1,18 +1,12 @@
 ghost use Rattle.std.specs.Prelude.{◌≡◌};
-ghost use Rattle.slots.specs.Items.{items};
 ghost use Rattle.orders.specs.Orders.{place_of};
 
 use crate::order::Order;
-use slots::List;
 
 // The place of the order with a number, if it is held.
-pub fn find(orders: &List<Order>, number: u32) -> Option<usize>
-    ensures { result ≡ place_of number (items orders.now) }
+// From the first on, as this asks nothing of the list: a search by halves would ask that the numbers rise, as they do in a ledger.
+pub fn find(orders: &[Order], number: u32) -> Option<usize>
+    ensures { result ≡ place_of number orders.now }
 {
-    for i in 0..orders.len() {
-        if orders.get(i).number == number {
-            return Some(i);
-        }
-    }
-    None
+    orders.iter().position(|o| o.number == number)
 }

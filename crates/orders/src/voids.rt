@@ -6,19 +6,12 @@ use crate::order::Order;
 use slots::List;
 
 // Takes out every order of the accounts that are marked; the others keep their order.
+// The marks are an array by account number, as every number is an account's and there is no heap for a set.
+// That the capacity stays, and what lies past the list, is said of a list before and after, which no type says of one value.
 pub fn void(orders: &mut List<Order>, marked: &[bool; 256])
     ensures items { items orders.new ≡ filter (spared marked.now) (items orders.old) }
     ensures free { drop (length (items orders.old) - length (items orders.new)) (free orders.new) ≡ free orders.old }
     ensures capacity { capacity orders.new ≡ capacity orders.old }
 {
-    let mut count = 0;
-    for i in 0..orders.len() {
-        let o = orders.get(i);
-        let void = marked[o.account as usize];
-        if !void {
-            orders.replace(count, o);
-            count += 1;
-        }
-    }
-    orders.truncate(count);
+    orders.retain(|o| !marked[o.account as usize]);
 }

@@ -1,106 +1,74 @@
 -- A review over what a review left changes nothing more.
-use Rattle.std.proofs.Common.{◌≡◌, ℕ, ◌+◌, ◌<◌, Bool, true, false, cond, not, ◌||◌, eqb, List, [], ◌∷◌, pos, filter, sym, refl, ap, ◌∙◌, arith}
-use mathlib.Core.Bool.{false≢true}
-use Rattle.std.proofs.lemmas.Bool.{ne_eqb, cond-false}
-use Rattle.slots.specs.Every.{every}
+use Rattle.std.proofs.Common.{◌≡◌, ℕ, ◌+◌, ◌*◌, ◌<◌, ◌≤◌, Bool, false, cond, not, ◌&&◌, eqb, ltb, nat_lt, List, [], ◌∷◌, ℤ, pos, filter, sym, refl, ap, ◌∙◌, arith}
+use lib.Signed.{lt_z}
+use Rattle.std.proofs.lemmas.Int.{ints}
+use Rattle.std.proofs.lemmas.Bool.{not-true, cond-true, cond_both, lt-ltb, ltb-true}
+use Rattle.std.proofs.lemmas.Bool.Decides.{nat_tests}
+use Rattle.std.proofs.lemmas.Grind.{common_steps}
+use Rattle.slots.proofs.Every.{every_kept}
 use Rattle.terms.specs.declared.lot.Lot.{Lot}
+use Rattle.terms.specs.Margins.{requirement}
 use Rattle.book.specs.Meaning.{Meaning}
-use Rattle.lots.specs.Worth.{holding_of}
 use Rattle.orders.specs.declared.order.Order.{Order}
-use Rattle.orders.specs.Margins.{order_margin, margin_of}
+use Rattle.orders.specs.Margins.{margin_of}
 use Rattle.orders.specs.Orders.{lawful_order}
 use Rattle.accounts.specs.declared.state.AccountState.{AccountState}
-use Rattle.accounts.specs.declared.state.AccountState.TheVariants.{Sound, Called, CutDue, CutInHand, CutOut}
 use Rattle.accounts.specs.declared.standing.Decision.{Decision}
 use Rattle.accounts.specs.declared.standing.Standing.{Standing}
-use Rattle.accounts.specs.Review.{is_open, decide, reviewed, falls, lacks}
+use Rattle.accounts.specs.Review.{reviewed, falls, lacks}
 use Rattle.accounts.specs.States.{state_of}
-use Rattle.reviews.specs.Standings.{standing_by}
-use Rattle.reviews.specs.Reviews.{judged, orders_spared, ReviewingAllTwiceIsOnce, JudgingAllTwiceIsOnce}
-use Rattle.reviews.proofs.Kept.{kept_again, owned}
+use Rattle.reviews.specs.Standings.{standing_of}
+use Rattle.reviews.specs.Reviews.{judged, orders_spared, decided, orders_left, ReviewingAllTwiceIsOnce, JudgingAllTwiceIsOnce}
+use Rattle.reviews.proofs.Kept.{kept_alike, kept_again, owned}
 
-off : (b : Bool) → not b ≡ true → b ≡ false
-off true h = absurd (false≢true h)
-off false h = refl
-
--- where an account's orders are kept, they need the same margin
-margin_kept : (void : ℕ → Bool) (a percent mark : ℕ) → void a ≡ false → (os : List Order) → margin_of a percent mark (filter (λ (o : Order). not (void o.account)) os) ≡ margin_of a percent mark os
+-- fewer orders need no more margin
+pub margin_fewer : (keeps : Order → Bool) (a percent mark : ℕ) (os : List Order) → margin_of a percent mark (filter keeps os) ≤ margin_of a percent mark os
 unfolding margin_of
-margin_kept void a percent mark n [] = refl
-margin_kept void a percent mark n (o ∷ os) = one (void o.account) refl (margin_kept void a percent mark n os)
-  where
-    rest : List Order
-    rest = filter (λ (x : Order). not (void x.account)) os
+margin_fewer keeps a percent mark [] = omega arith
+margin_fewer keeps a percent mark (o ∷ os) = grind (arith, common_steps, nat_tests, margin_fewer keeps a percent mark os)
 
-    one : (b : Bool) → void o.account ≡ b → margin_of a percent mark rest ≡ margin_of a percent mark os → margin_of a percent mark (cond (not b) (o ∷ rest) rest) ≡ cond (eqb o.account a) (order_margin percent mark o) 0 + margin_of a percent mark os
-    one true e same =
-        let other : o.account ≡ a → ⊥ = λ s. false≢true (sym n ∙ ap void (sym s) ∙ e) in
-        let none = cond-false (eqb o.account a) (order_margin percent mark o) 0 (ne_eqb o.account a other) in
-        omega (arith, none, same)
-    one false e same = omega (arith, same)
+-- over standings that differ in margin alone
+state_again : (a : ℕ) (st : AccountState) (s t : Standing) → falls t ≡ falls s → (reviewed a (reviewed a st s).state t).state ≡ (reviewed a st s).state
+state_again a st s t e = grind (arith, common_steps)
 
--- what a review decides, by what is asked of the account: is it passed over, does it fall, does it lack
-abbrev pick : Bool → AccountState → Bool → Bool → Decision
-pick over st f l = cond (over || not (is_open st)) (decide st false) (cond f (decide CutDue true) (decide st l))
+void_again : (a : ℕ) (st : AccountState) (s t : Standing) → falls t ≡ falls s → (lacks s ≡ false → lacks t ≡ false) → (reviewed a st s).void ≡ false → (reviewed a (reviewed a st s).state t).void ≡ false
+void_again a st s t e less h = grind (arith, common_steps)
 
-state_again : (over : Bool) (st : AccountState) (f l k : Bool) → (pick over (pick over st f l).state f k).state ≡ (pick over st f l).state
-state_again true st f l k = refl
-state_again false Sound true l k = refl
-state_again false Sound false l k = refl
-state_again false (Called d s) true l k = refl
-state_again false (Called d s) false l k = refl
-state_again false CutDue f l k = refl
-state_again false (CutInHand n) f l k = refl
-state_again false CutOut f l k = refl
+covered_fewer : (a r n k : ℕ) (e : ℤ) → k ≤ n → (ltb 0 (cond (eqb a 2) 0 (r + n)) && lt_z e (pos (100 * cond (eqb a 2) 0 (r + n)))) ≡ false → (ltb 0 (cond (eqb a 2) 0 (r + k)) && lt_z e (pos (100 * cond (eqb a 2) 0 (r + k)))) ≡ false
+covered_fewer a r n k e h lacks = grind (arith, ints, nat_tests)
 
-void_again : (over : Bool) (st : AccountState) (f l : Bool) → (pick over st f l).void ≡ false → (pick over (pick over st f l).state f l).void ≡ false
-void_again true st f l h = refl
-void_again false Sound true l h = absurd (false≢true (sym h))
-void_again false Sound false l h = h
-void_again false (Called d s) true l h = absurd (false≢true (sym h))
-void_again false (Called d s) false l h = h
-void_again false CutDue f l h = refl
-void_again false (CutInHand n) f l h = refl
-void_again false CutOut f l h = refl
-
--- over the accounts that D holds of, of which the orders are, by a state for each
-again : (D : ℕ → Type 0) (good : Order → Bool) → ((o : Order) → good o ≡ true → D o.account)
-    → (m : Meaning) (p spot mark : ℕ) (ls : List Lot) (os : List Order) (states after : ℕ → AccountState)
-    → ((a : ℕ) → D a → after a ≡ (judged m p spot mark ls os states a).state)
-    → every good os ≡ true
-    → ((a : ℕ) → D a → (judged m p spot mark ls (orders_spared m p spot mark ls os states) after a).state ≡ after a)
-    × (orders_spared m p spot mark ls (orders_spared m p spot mark ls os states) after ≡ orders_spared m p spot mark ls os states)
-again D good within m p spot mark ls os states after put lawful =
-    let due : ℕ → Decision = λ (a : ℕ). judged m p spot mark ls os states a in
-    let left = orders_spared m p spot mark ls os states in
-    let s : (a n : ℕ) → Standing = λ (a n : ℕ). standing_by (m.balance a) p spot a (holding_of a (pos mark) ls) n in (
-      λ a h.
-          let n = margin_of a p mark os in
-          let k = margin_of a p mark left in
-          ap (λ (x : AccountState). (reviewed a x (s a k)).state) (put a h) ∙ state_again (eqb a 2) (states a) (falls (s a n)) (lacks (s a n)) (lacks (s a k)) ∙ sym (put a h),
-      kept_again good (λ (o : Order). not (due o.account).void) (λ (o : Order). not (judged m p spot mark ls left after o.account).void)
-          (λ o fine spared.
-          let a = o.account in
-          let n = margin_of a p mark os in
-          let spares : (due a).void ≡ false = off _ spared in
-          let e : (judged m p spot mark ls left after a).void ≡ false =
-          ap (λ (x : AccountState). (reviewed a x (s a (margin_of a p mark left))).void) (put a (within o fine))
-          ∙ ap (λ (k : ℕ). (reviewed a (due a).state (s a k)).void) (margin_kept (λ (b : ℕ). (due b).void) a p mark spares os)
-          ∙ void_again (eqb a 2) (states a) (falls (s a n)) (lacks (s a n)) spares
-          in
-          ap not e)
-          os lawful,
-    )
-
-pub twice : ReviewingAllTwiceIsOnce
-twice m p spot mark ls os accounts after put lawful = again (λ a. a < 256) lawful_order owned m p spot mark ls os (state_of accounts) (state_of after) put lawful
-
-any_passes : (os : List Order) → every (λ (o : Order). true) os ≡ true
-unfolding every
-any_passes [] = refl
-any_passes (o ∷ os) = any_passes os
+-- over fewer of the orders, all of which a review keeps
+pub judged_again : (m : Meaning) (p spot mark : ℕ) (ls : List Lot) (os left : List Order) (states after : ℕ → AccountState)
+    → ((a : ℕ) → after a ≡ (judged m p spot mark ls os states a).state)
+    → ((a : ℕ) → margin_of a p mark left ≤ margin_of a p mark os)
+    → filter (λ (o : Order). not (judged m p spot mark ls os states o.account).void) left ≡ left
+    → ((a : ℕ) → (judged m p spot mark ls left after a).state ≡ after a) × (orders_spared m p spot mark ls left after ≡ left)
+judged_again m p spot mark ls os left states after put less kept =
+    let due : ℕ → Decision = judged m p spot mark ls os states in
+    let s : List Order → ℕ → Standing = standing_of m p spot mark ls in
+    let again : Order → Bool = λ (o : Order). not (judged m p spot mark ls left after o.account).void in
+    let stays = kept_again (λ (o : Order). not (due o.account).void) again
+    (λ o spared.
+    let a = o.account in
+    let e : (judged m p spot mark ls left after a).void ≡ false =
+    rw (put a) (void_again a (states a) (s os a) (s left a) refl (covered_fewer a (requirement p spot (s os a).units) (margin_of a p mark os) (margin_of a p mark left) (s os a).equity (less a)) (not-true (due a).void spared)) in
+    ap not e)
+    left in (λ a. rw (put a) (state_again a (states a) (s os a) (s left a) refl), ap (filter again) (sym kept) ∙ stays ∙ kept)
 
 pub judged_twice : JudgingAllTwiceIsOnce
 judged_twice m p spot mark ls os states after put =
-    let once = again (λ a. Unit {0}) (λ o. true) (λ o e. tt) m p spot mark ls os states after (λ a x. put a) (any_passes os) in
-    (λ a. once.0 a tt, once.1)
+    let spared : Order → Bool = λ (o : Order). not (judged m p spot mark ls os states o.account).void in
+    judged_again m p spot mark ls os (filter spared os) states after put (λ a. margin_fewer spared a p mark os) (kept_again spared spared (λ o h. h) os)
+
+-- the accounts past those that there are can be in any state, since no order is theirs
+pub twice : ReviewingAllTwiceIsOnce
+twice m p spot mark ls os accounts after put lawful =
+    let due : ℕ → Decision = decided m p spot mark ls os accounts in
+    let left = orders_left m p spot mark ls os accounts in
+    let all : ℕ → AccountState = λ (a : ℕ). cond (nat_lt a 256) (state_of after a) (due a).state in
+    let within : (a : ℕ) → a < 256 → all a ≡ state_of after a = λ a h. cond-true (nat_lt a 256) (state_of after a) (due a).state (lt-ltb a 256 h) in
+    let once = judged_twice m p spot mark ls os (state_of accounts) all (λ a. cond_both (nat_lt a 256) (state_of after a) (due a).state (λ (x : AccountState). x ≡ (due a).state) (λ e. put a (ltb-true a 256 e)) (λ e. refl)) in
+    let spared : (ℕ → AccountState) → Order → Bool = λ (states : ℕ → AccountState) (o : Order). not (judged m p spot mark ls left states o.account).void in (
+      λ a h. rw (within a h) at (once.0 a),
+      kept_alike lawful_order (spared (state_of after)) (spared all) (λ o fine. rw (within o.account (owned o fine)) refl) left (every_kept lawful_order (λ (o : Order). not (due o.account).void) os lawful) ∙ once.1,
+    )

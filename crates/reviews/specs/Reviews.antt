@@ -1,8 +1,7 @@
 -- What a review decides of every account, and the orders that it leaves.
-use Rattle.std.specs.Prelude.{◌≡◌, ℕ, ◌<◌, true, not, List, ℤ, filter}
+use Rattle.std.specs.Prelude.{◌≡◌, ℕ, ◌<◌, true, not, List, filter}
 use Rattle.terms.specs.declared.lot.Lot.{Lot}
 use Rattle.book.specs.Meaning.{Meaning}
-use Rattle.lots.specs.declared.holding.Holding.{Holding}
 use Rattle.orders.specs.declared.order.Order.{Order}
 use Rattle.orders.specs.Orders.{lawful_orders}
 use Rattle.accounts.specs.declared.accounts.Accounts.{Accounts}
@@ -10,19 +9,31 @@ use Rattle.accounts.specs.declared.state.AccountState.{AccountState}
 use Rattle.accounts.specs.declared.standing.Decision.{Decision}
 use Rattle.accounts.specs.Review.{reviewed}
 use Rattle.accounts.specs.States.{state_of}
-use Rattle.reviews.specs.Standings.{standing_by, standing_of}
+use Rattle.reviews.specs.Standings.{standing_of}
 
-abbrev pub decided_by : (balance : ℤ) (percent spot account : ℕ) → Accounts → Holding → (ordered : ℕ) → Decision
-decided_by balance percent spot a accounts h ordered = reviewed a (state_of accounts a) (standing_by balance percent spot a h ordered)
-
-abbrev pub decided : Meaning → (percent spot mark : ℕ) → List Lot → List Order → Accounts → ℕ → Decision
-decided m percent spot mark lots orders accounts a = reviewed a (state_of accounts a) (standing_of m percent spot mark lots orders a)
+-- by a state for each account, whatever keeps the states
+abbrev pub judged : Meaning → (percent spot mark : ℕ) → List Lot → List Order → (ℕ → AccountState) → ℕ → Decision
+judged m percent spot mark lots orders states a = reviewed a (states a) (standing_of m percent spot mark lots orders a)
 
 -- the orders of accounts whose orders are not void
-abbrev pub orders_left : Meaning → (percent spot mark : ℕ) → List Lot → List Order → Accounts → List Order
-orders_left m percent spot mark lots orders accounts = filter (λ (o : Order). not (decided m percent spot mark lots orders accounts o.account).void) orders
+abbrev pub orders_spared : Meaning → (percent spot mark : ℕ) → List Lot → List Order → (ℕ → AccountState) → List Order
+orders_spared m percent spot mark lots orders states = filter (λ (o : Order). not (judged m percent spot mark lots orders states o.account).void) orders
 
--- reviewed again, after the states and orders that a review left, every account keeps its state and every order stays
+-- judged again, after the states and orders that a review left, every account keeps its state and every order stays
+abbrev pub JudgingAllTwiceIsOnce : Type 0
+JudgingAllTwiceIsOnce =
+    (m : Meaning) (percent spot mark : ℕ) (lots : List Lot) (orders : List Order) (states after : ℕ → AccountState)
+    → ((a : ℕ) → after a ≡ (judged m percent spot mark lots orders states a).state)
+    → ((a : ℕ) → (judged m percent spot mark lots (orders_spared m percent spot mark lots orders states) after a).state ≡ after a)
+    × (orders_spared m percent spot mark lots (orders_spared m percent spot mark lots orders states) after ≡ orders_spared m percent spot mark lots orders states)
+
+-- the same by the states that accounts keep
+abbrev pub decided : Meaning → (percent spot mark : ℕ) → List Lot → List Order → Accounts → ℕ → Decision
+decided m percent spot mark lots orders accounts = judged m percent spot mark lots orders (state_of accounts)
+
+abbrev pub orders_left : Meaning → (percent spot mark : ℕ) → List Lot → List Order → Accounts → List Order
+orders_left m percent spot mark lots orders accounts = orders_spared m percent spot mark lots orders (state_of accounts)
+
 abbrev pub ReviewingAllTwiceIsOnce : Type 0
 ReviewingAllTwiceIsOnce =
     (m : Meaning) (percent spot mark : ℕ) (lots : List Lot) (orders : List Order) (accounts after : Accounts)
@@ -30,17 +41,3 @@ ReviewingAllTwiceIsOnce =
     → lawful_orders orders ≡ true
     → ((a : ℕ) → a < 256 → (decided m percent spot mark lots (orders_left m percent spot mark lots orders accounts) after a).state ≡ state_of after a)
     × (orders_left m percent spot mark lots (orders_left m percent spot mark lots orders accounts) after ≡ orders_left m percent spot mark lots orders accounts)
-
--- the same by a state for each account, whatever keeps the states
-abbrev pub judged : Meaning → (percent spot mark : ℕ) → List Lot → List Order → (ℕ → AccountState) → ℕ → Decision
-judged m percent spot mark lots orders states a = reviewed a (states a) (standing_of m percent spot mark lots orders a)
-
-abbrev pub orders_spared : Meaning → (percent spot mark : ℕ) → List Lot → List Order → (ℕ → AccountState) → List Order
-orders_spared m percent spot mark lots orders states = filter (λ (o : Order). not (judged m percent spot mark lots orders states o.account).void) orders
-
-abbrev pub JudgingAllTwiceIsOnce : Type 0
-JudgingAllTwiceIsOnce =
-    (m : Meaning) (percent spot mark : ℕ) (lots : List Lot) (orders : List Order) (states after : ℕ → AccountState)
-    → ((a : ℕ) → after a ≡ (judged m percent spot mark lots orders states a).state)
-    → ((a : ℕ) → (judged m percent spot mark lots (orders_spared m percent spot mark lots orders states) after a).state ≡ after a)
-    × (orders_spared m percent spot mark lots (orders_spared m percent spot mark lots orders states) after ≡ orders_spared m percent spot mark lots orders states)

@@ -1,17 +1,14 @@
 -- What taking an order back leaves.
-use Rattle.std.proofs.Common.{Bool, not, eqb, [], ◌∷◌}
-use Rattle.std.proofs.lemmas.Bool.{not-false}
-use Rattle.terms.specs.declared.refusal.Refusal.TheVariants.{OrderNotHeld}
-use Rattle.terms.specs.Refusals.{◌gives◌}
+use Rattle.std.proofs.Common.{Bool, not, eqb, arith}
+use Rattle.std.proofs.lemmas.Bool.Decides.{nat_tests}
 use Rattle.orders.specs.declared.order.Order.{Order}
-use Rattle.orders.specs.Numbers.{held, is_plain, without}
+use Rattle.orders.specs.Numbers.{without}
 use Rattle.orders.proofs.Numbers.{rising_kept, without_held, without_others}
 use Rattle.rules.specs.State.{with_orders}
 use Rattle.rules.specs.Valuation.{decision, reviewed}
 use Rattle.rules.specs.Laws.{CancelsTakeOneOrder}
 use Rattle.rules.proofs.Keeping.{none_kept, held_kept}
 use Rattle.rules.proofs.Quiet.{quiet_fewer}
-use Rattle.rules.proofs.Sentences.{none_applies}
 
 pub cancels : CancelsTakeOneOrder
 unfolding reviewed
@@ -20,7 +17,7 @@ cancels n s m h =
     let keeps : Order → Bool = λ (o : Order). not (decision (with_orders os s) m o.account).void in
     let other : Order → Bool = λ (o : Order). not (eqb o.number n) in
     record {
-      was = not-false (is_plain (held n s.orders)) (none_applies (not (is_plain (held n s.orders)) gives OrderNotHeld ∷ []) h).0;
+      was = grind (arith, nat_tests);
       gone = without_held n s.orders;
       others = λ k d. without_others n k s.orders d;
       stays_gone = none_kept keeps n os (without_held n s.orders);

@@ -1,7 +1,6 @@
 pub mod Sentences
 pub mod Reviewing
 pub mod Entering
-pub mod Finding
 pub mod Keeping
 pub mod Taken
 pub mod Settling

@@ -1,14 +1,13 @@
 -- A review over what a review left alters nothing, and what a review leaves alone.
-use Rattle.std.proofs.Common.{◌≡◌, ℕ, true, false, cond, not, ◌||◌, eqb, sym, refl, ap, ◌∙◌, ⊎_elim}
-use Rattle.std.proofs.lemmas.Bool.{cond-true, eq-eqb, or_left, or_right}
+use Rattle.std.proofs.Common.{◌≡◌, ℕ, false, not, sym, refl, ap, ◌∙◌, arith}
+use Rattle.std.proofs.lemmas.Grind.{common_steps}
 use Rattle.book.specs.Meaning.{Meaning}
 use Rattle.orders.specs.declared.order.Order.{Order}
-use Rattle.accounts.specs.declared.state.AccountState.TheVariants.{CutDue}
 use Rattle.accounts.specs.declared.standing.Decision.{Decision}
-use Rattle.accounts.specs.Review.{is_open, falls, lacks, decide}
+use Rattle.accounts.specs.Review.{decide}
 use Rattle.reviews.proofs.Twice.{judged_twice}
 use Rattle.rules.specs.State.{State}
-use Rattle.rules.specs.Valuation.{spot_of, mark_of, standing, decision, orders_kept, reviewed}
+use Rattle.rules.specs.Valuation.{spot_of, mark_of, decision, orders_kept, reviewed}
 use Rattle.rules.specs.Laws.{PassedOver, CallsLeaveItReviewed, ReviewingAgainAltersNothing, ReviewsAlterStatesAndOrders}
 use Rattle.rules.proofs.Reviewing.{is_reviewed}
 use Rattle.rules.proofs.Keeping.{all_kept}
@@ -17,7 +16,7 @@ pub again : ReviewingAgainAltersNothing
 unfolding reviewed
 again m s =
     let settled = judged_twice m s.settings.margin_percent (spot_of s) (mark_of s) s.lots s.orders s.states (λ a. (decision s m a).state) (λ a. refl) in
-    sym (is_reviewed m (reviewed m s) (spot_of s) (mark_of s) refl refl (λ a. (decision s m a).state) (orders_kept s m) s.order_slots (λ a. sym (settled.0 a)) (sym settled.1) refl)
+    sym (is_reviewed m (reviewed m s) _ (spot_of s) (mark_of s) refl refl refl (λ a. (decision s m a).state) (orders_kept s m) s.order_slots (λ a. sym (settled.0 a)) (sym settled.1) refl)
 
 pub calls_again : CallsLeaveItReviewed
 calls_again = record {
@@ -30,10 +29,7 @@ calls_again = record {
 
 -- of an account that is passed over
 pub passed : (m : Meaning) (s : State) (a : ℕ) → PassedOver s a → decision s m a ≡ decide (s.states a) false
-passed m s a over =
-    let now = standing s m a in
-    cond-true (eqb a 2 || not (is_open (s.states a))) (decide (s.states a) false) (cond (falls now) (decide CutDue true) (decide (s.states a) (lacks now)))
-    (⊎_elim (λ (two : a ≡ 2). or_left (eqb a 2) (not (is_open (s.states a))) (eq-eqb a 2 two)) (λ (shut : is_open (s.states a) ≡ false). or_right (eqb a 2) (not (is_open (s.states a))) (ap not shut)) over)
+passed m s a over = grind (arith, common_steps)
 
 pub left_alone : ReviewsAlterStatesAndOrders
 unfolding reviewed

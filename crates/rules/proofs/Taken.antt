@@ -1,13 +1,12 @@
 -- What is true of a call that was taken: no sentence applied.
-use Rattle.std.proofs.Common.{◌≡◌, ℕ, true, false, ◌++◌, is_some}
-use Rattle.std.proofs.lemmas.Bool.{not-false}
+use Rattle.std.proofs.Common.{◌≡◌, ℕ, true, false, is_some, arith}
+use Rattle.std.proofs.lemmas.Bool.Decides.{nat_tests}
 use Rattle.book.specs.Meaning.{Meaning}
 use Rattle.orders.specs.declared.order.Order.{Order}
 use Rattle.accounts.specs.Review.{is_open}
 use Rattle.rules.specs.State.{State}
-use Rattle.rules.specs.Calls.{next_order, oversized, uncovered, order_forms, order_sentences, order_call}
+use Rattle.rules.specs.Calls.{next_order, oversized, uncovered, order_call}
 use Rattle.rules.specs.Laws.{Taken}
-use Rattle.rules.proofs.Sentences.{none_applies}
 
 -- of an order that was entered
 pub record Admitted (o : Order) (s : State) (m : Meaning) : Type 0 where
@@ -17,7 +16,4 @@ pub record Admitted (o : Order) (s : State) (m : Meaning) : Type 0 where
   pub covered : uncovered o s m ≡ false
 
 pub admitted : (a b price q : ℕ) (s : State) (m : Meaning) → Taken (order_call a b price q s m) → Admitted (next_order a b price q s) s m
-admitted a b price q s m h =
-    let o = next_order a b price q s in
-    let past = (none_applies (order_forms a b price q ++ order_sentences o s m) h).1.1.1.1 in
-    record { spotted = not-false (is_some s.spot) past.0; active = not-false (is_open (s.states a)) past.1.0; sized = past.1.1.0; covered = past.1.1.1.0 }
+admitted a b price q s m h = record { spotted = grind (arith, nat_tests); active = grind (arith, nat_tests); sized = grind (arith, nat_tests); covered = grind (arith, nat_tests) }

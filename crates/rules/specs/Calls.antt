@@ -8,7 +8,7 @@ use Rattle.terms.specs.Margins.{short_of}
 use Rattle.terms.specs.Ranges.{between, bank, price_max, payment_max, order_quantity_max, position_max, order_number_max}
 use Rattle.terms.specs.Refusals.{Sentence, ◌gives◌, first}
 use Rattle.book.specs.Meaning.{Meaning, entered}
-use Rattle.book.specs.Deposits.{deposit_refusal}
+use Rattle.book.specs.Deposits.{payment_sentences, deposit_refusal}
 use Rattle.lots.specs.Positions.{position_of}
 use Rattle.orders.specs.declared.order.Order.{Order}
 use Rattle.orders.specs.Margins.{ordered_of}
@@ -50,9 +50,8 @@ deposit_call a yen s m = record {
 -- yen are paid out
 abbrev pub withdraw_sentences : (account yen : ℕ) → State → Meaning → List Sentence
 withdraw_sentences a yen s m =
-    nat_lt a 2 gives AccountOutOfRange
-    ∷ not (between 1 payment_max yen) gives PaymentOutOfRange
-    ∷ not (is_sound (s.states a)) gives WrongAccountState
+    payment_sentences a yen
+    ++ not (is_sound (s.states a)) gives WrongAccountState
     ∷ exceeds (100 * yen) (m.balance a) (standing s m a) gives MarginTooSmall
     ∷ []
 

@@ -1,4 +1,4 @@
--- How many records a list holds.
+-- How many records a list holds: `take` of the library, at this crate's own number of used slots.
 use Rattle.std.proofs.Common.{◌≡◌, ◌≤◌, length, arith}
 use Rattle.std.proofs.lemmas.List.{length-take-le}
 use Rattle.slots.specs.declared.list.List.{List}

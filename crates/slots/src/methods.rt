@@ -1,8 +1,10 @@
-ghost use Rattle.std.specs.Prelude.{◌≡◌, ℕ, ◌+◌, ◌-◌, ◌<◌, min, true, [], ◌∷◌, ◌++◌, length, take, drop, is_ok, is_err, if◌then◌else◌, Ok, Err, nat_lt, slice_index_or, slice_set};
+ghost use Rattle.std.specs.Prelude.{◌≡◌, ℕ, ◌+◌, ◌-◌, ◌<◌, min, true, [], ◌∷◌, ◌++◌, length, take, drop, is_ok, is_err, if◌then◌else◌, Ok, Err, nat_lt, slice_index_or, slice_set, Bool, filter};
+ghost use Rattle.std.specs.Fn.{FnReturnsAt};
 ghost use Rattle.std.specs.List.{remove};
 ghost use Rattle.slots.specs.Items.{capacity, items, free};
 
 use crate::list::List;
+use std::mem;
 
 impl<'a, T: Copy> List<'a, T> {
     // An empty list that uses at most `limit` of the slots.
@@ -39,15 +41,23 @@ impl<'a, T: Copy> List<'a, T> {
         self.capacity() - self.len()
     }
 
+    // The records, in order.
+    pub fn as_slice(&self) -> &[T]
+        ensures { result.now ≡ items self.now }
+    {
+        &self.slots[..self.len()]
+    }
+
+    // A place lies inside one list as it stands: an index that carried this would have to name the list, so each method asks it.
     pub fn get(&self, i: usize) -> T
         requires { i < length (items self.now) }
         ensures { result ≡ slice_index_or (items self.now) i result }
     {
-        let s: &[T] = self.slots;
-        s[i]
+        self.as_slice()[i]
     }
 
     // Puts `x` in the place of record `i`, which comes back.
+    // That the capacity stays, here and below, is said of a list before and after, which no type says of one value; so with `free`.
     pub fn replace(&mut self, i: usize, x: T) -> T
         requires { i < length (items self.old) }
         ensures value { result ≡ slice_index_or (items self.old) i result }
@@ -55,9 +65,7 @@ impl<'a, T: Copy> List<'a, T> {
         ensures free { free self.new ≡ free self.old }
         ensures capacity { capacity self.new ≡ capacity self.old }
     {
-        let old = self.get(i);
-        self.slots[i] = x;
-        old
+        mem::replace(&mut self.slots[i], x)
     }
 
     // Puts `x` behind the last record, or hands it back where there is no room.
@@ -86,11 +94,9 @@ impl<'a, T: Copy> List<'a, T> {
         ensures capacity { capacity self.new ≡ capacity self.old }
     {
         let old = self.get(i);
-        let last = self.len() - 1;
-        for k in 0..last - i {
-            self.slots[i + k] = self.slots[i + k + 1];
-        }
-        self.len = last;
+        let n = self.len();
+        self.slots.copy_within(i + 1..n, i);
+        self.len = n - 1;
         old
     }
 
@@ -102,5 +108,24 @@ impl<'a, T: Copy> List<'a, T> {
     {
         let count = n.min(self.len());
         self.len = count;
+    }
+
+    // Keeps the records that pass; they keep their order.
+    pub fn retain<F: Fn(&T) -> bool>(&mut self, keeps: F)
+        requires { F.IsAlwaysCallable keeps }
+        ensures items { (test : T → Bool) → ((x : T) (b : Bool) → FnReturnsAt F.Fn keeps x b → b ≡ test x) → items self.new ≡ filter test (items self.old) }
+        ensures free { drop (length (items self.old) - length (items self.new)) (free self.new) ≡ free self.old }
+        ensures capacity { capacity self.new ≡ capacity self.old }
+    {
+        // By place, as the slots are written while they are read.
+        let mut count = 0;
+        for i in 0..self.len() {
+            let x = self.get(i);
+            if keeps(&x) {
+                self.replace(count, x);
+                count += 1;
+            }
+        }
+        self.truncate(count);
     }
 }

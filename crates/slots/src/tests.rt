@@ -1,3 +1,6 @@
+ghost use Rattle.std.specs.Prelude.{◌≡◌, ◌==◌, not, filter, false, slice_index_or};
+ghost use Rattle.slots.specs.Items.{items};
+
 use crate::list::List;
 
 #[test]
@@ -55,4 +58,50 @@ fn keeps_the_first_records(rt: HostRuntime) {
     assert_eq!(rt; list.get(1), 20);
     list.truncate(0);
     assert_eq!(rt; list.len(), 0);
+}
+
+// The records other than `x`, as a caller of `retain` states it.
+fn without(list: &mut List<u32>, x: u32)
+    ensures { items list.new ≡ filter (λ y. not (y == x)) (items list.old) }
+{
+    list.retain(|y| *y != x);
+}
+
+#[derive(Clone, Copy)]
+struct Entry {
+    account: u8,
+}
+
+// As an order book that leaves out the orders of marked accounts.
+fn unmarked(list: &mut List<Entry>, marked: &[bool; 256])
+    ensures { items list.new ≡ filter (λ e. not (slice_index_or marked.now e.account false)) (items list.old) }
+{
+    list.retain(|e| !marked[e.account as usize]);
+}
+
+#[test]
+fn keeps_the_others(rt: HostRuntime) {
+    let mut slots = [0u32; 4];
+    let mut list = List::new(&mut slots, 4);
+    for x in [10, 20, 10, 30] {
+        assert_eq!(rt; list.append(x), Ok(()));
+    }
+    without(&mut list, 10);
+    assert_eq!(rt; list.as_slice(), [20, 30].as_slice());
+    without(&mut list, 40);
+    assert_eq!(rt; list.as_slice(), [20, 30].as_slice());
+}
+
+#[test]
+fn keeps_the_unmarked(rt: HostRuntime) {
+    let mut slots = [Entry { account: 0 }; 3];
+    let mut list = List::new(&mut slots, 3);
+    for account in [3, 255, 3] {
+        assert!(rt; list.append(Entry { account }).is_ok());
+    }
+    let mut marked = [false; 256];
+    marked[3] = true;
+    unmarked(&mut list, &marked);
+    assert_eq!(rt; list.len(), 1);
+    assert_eq!(rt; list.get(0).account, 255);
 }

@@ -1,4 +1,5 @@
 -- Quotients: how large they are, and what rounding up gives.
+-- The library's `div_ceil` adds a unit where a remainder is left; `ceiling` divides once, so both are shown to be one.
 use Rattle.std.proofs.Common.{◌≡◌, ℕ, zero, suc, ◌+◌, ◌-◌, ◌*◌, ◌/◌, ◌%◌, ◌<◌, ◌≤◌, min, ℤ, pos, negsuc, ◌*ℤ◌, nat_abs, sym, refl, mod-lt, mul_comm, add-mul, div-add-mod', arith}
 use native.Mathlib.Nat.{div-eq_of_lt-le, div-le_of_le-mul}
 use lib.Signed.{quot_z}

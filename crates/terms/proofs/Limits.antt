@@ -71,25 +71,6 @@ limit_at n a h =
     let r : (n * 86400 + a) % 86400 ≡ a = omega arith in
     rw (d, r)
 
--- what a day's moments have added up to
-weights_1 : (s : ℕ) → s < 21600 → weights timetable s ≡ 0
-weights_1 s h = grind (arith, nat_tests)
-
-weights_2 : (s : ℕ) → 21600 ≤ s → s < 50400 → weights timetable s ≡ 4000
-weights_2 s l h = grind (arith, nat_tests)
-
-weights_3 : (s : ℕ) → 50400 ≤ s → s < 61200 → weights timetable s ≡ 8000
-weights_3 s l h = grind (arith, nat_tests)
-
-weights_4 : (s : ℕ) → 61200 ≤ s → s < 64800 → weights timetable s ≡ 8000
-weights_4 s l h = grind (arith, nat_tests)
-
-weights_5 : (s : ℕ) → 64800 ≤ s → s < 79200 → weights timetable s ≡ 9000
-weights_5 s l h = grind (arith, nat_tests)
-
-weights_6 : (s : ℕ) → 79200 ≤ s → weights timetable s ≡ 13000
-weights_6 s l = grind (arith, nat_tests)
-
 -- the next moment raises the limit by its weight
 pub limit_next : (time : ℕ) → charge_limit (next_due time).at ≡ charge_limit time + weight (next_due time).moment
 unfolding next_due
@@ -99,13 +80,13 @@ limit_next time =
     let e : n * 86400 + s ≡ time = omega arith in
     let now : charge_limit time ≡ 13000 * n + weights timetable s = ap charge_limit (sym e) ∙ limit_at n s (omega arith) in
     by_moment s (λ d. charge_limit (n * 86400 + d.at) ≡ charge_limit time + weight d.moment)
-    (λ h. let w = weights_1 s h in limit_at n 21600 (omega arith) ∙ omega arith)
-    (λ l h. let w = weights_2 s l h in limit_at n 50400 (omega arith) ∙ omega arith)
-    (λ l h. let w = weights_3 s l h in limit_at n 61200 (omega arith) ∙ omega arith)
-    (λ l h. let w = weights_4 s l h in limit_at n 64800 (omega arith) ∙ omega arith)
-    (λ l h. let w = weights_5 s l h in limit_at n 79200 (omega arith) ∙ omega arith)
+    (λ h. let w : weights timetable s ≡ 0 = grind (arith, nat_tests) in limit_at n 21600 (omega arith) ∙ omega arith)
+    (λ l h. let w : weights timetable s ≡ 4000 = grind (arith, nat_tests) in limit_at n 50400 (omega arith) ∙ omega arith)
+    (λ l h. let w : weights timetable s ≡ 8000 = grind (arith, nat_tests) in limit_at n 61200 (omega arith) ∙ omega arith)
+    (λ l h. let w : weights timetable s ≡ 8000 = grind (arith, nat_tests) in limit_at n 64800 (omega arith) ∙ omega arith)
+    (λ l h. let w : weights timetable s ≡ 9000 = grind (arith, nat_tests) in limit_at n 79200 (omega arith) ∙ omega arith)
     (λ l.
-    let w = weights_6 s l in
+    let w : weights timetable s ≡ 13000 = grind (arith, nat_tests) in
     let j : n * 86400 + 108000 ≡ (n + 1) * 86400 + 21600 = omega arith in
     ap charge_limit j ∙ limit_at (n + 1) 21600 (omega arith) ∙ omega arith)
 

@@ -1,6 +1,7 @@
 -- The timetable, case by case.
-use Rattle.std.proofs.Common.{◌≡◌, ℕ, ◌+◌, ◌-◌, ◌*◌, ◌/◌, ◌%◌, ◌<◌, ◌≤◌, ltb, Some, None, sym, refl, arith}
-use Rattle.std.proofs.lemmas.Bool.{cond_both, ltb-true, ltb-false, ne_eqb}
+use Rattle.std.proofs.Common.{◌≡◌, ℕ, ◌+◌, ◌-◌, ◌*◌, ◌/◌, ◌%◌, ◌<◌, ◌≤◌, ltb, Some, None, refl, arith}
+use Rattle.std.proofs.lemmas.Bool.{cond_both, ltb-true, ltb-false}
+use Rattle.std.proofs.lemmas.Bool.Decides.{nat_tests}
 use Rattle.terms.specs.declared.moments.Moment.{Moment}
 use Rattle.terms.specs.declared.moments.Moment.TheVariants.{Funding, Deadline, Rollover}
 use Rattle.terms.specs.declared.moments.Due.{Due}
@@ -22,17 +23,6 @@ by_moment s P a b c d e f =
     cond_both (ltb s 64800) _ _ P (λ h. d (ltb-false s 61200 h₃) (ltb-true s 64800 h)) (λ h₄.
     cond_both (ltb s 79200) _ _ P (λ h. e (ltb-false s 64800 h₄) (ltb-true s 79200 h)) (λ h₅. f (ltb-false s 79200 h₅))))))
 
--- nothing is due at a second between two of the timetable
-idle : (s : ℕ) → (s ≡ 21600 → ⊥) → (s ≡ 50400 → ⊥) → (s ≡ 61200 → ⊥) → (s ≡ 64800 → ⊥) → (s ≡ 79200 → ⊥) → scheduled timetable s ≡ None
-idle s a b c d e =
-    rw (
-      ne_eqb 21600 s (λ h. a (sym h)),
-      ne_eqb 50400 s (λ h. b (sym h)),
-      ne_eqb 61200 s (λ h. c (sym h)),
-      ne_eqb 64800 s (λ h. d (sym h)),
-      ne_eqb 79200 s (λ h. e (sym h)),
-    )
-
 -- the moment a of the timetable on day n is the next one after second s of that day
 next_by : (time n s a : ℕ) (m : Moment) → time ≡ n * 86400 + s → s < a → a < 86400 → scheduled timetable a ≡ Some m
     → ((v : ℕ) → s < v → v < a → scheduled timetable v ≡ None) → Next time (on_day n (due a m))
@@ -53,15 +43,15 @@ next_is_next time =
     let s = time % 86400 in
     let e : time ≡ n * 86400 + s = omega arith in
     by_moment s (λ d. Next time (on_day n d))
-    (λ h. next_by time n s 21600 Funding e h (omega arith) refl (λ v p q. idle v (λ i. omega arith) (λ i. omega arith) (λ i. omega arith) (λ i. omega arith) (λ i. omega arith)))
-    (λ l h. next_by time n s 50400 Funding e h (omega arith) refl (λ v p q. idle v (λ i. omega arith) (λ i. omega arith) (λ i. omega arith) (λ i. omega arith) (λ i. omega arith)))
-    (λ l h. next_by time n s 61200 Deadline e h (omega arith) refl (λ v p q. idle v (λ i. omega arith) (λ i. omega arith) (λ i. omega arith) (λ i. omega arith) (λ i. omega arith)))
-    (λ l h. next_by time n s 64800 Rollover e h (omega arith) refl (λ v p q. idle v (λ i. omega arith) (λ i. omega arith) (λ i. omega arith) (λ i. omega arith) (λ i. omega arith)))
-    (λ l h. next_by time n s 79200 Funding e h (omega arith) refl (λ v p q. idle v (λ i. omega arith) (λ i. omega arith) (λ i. omega arith) (λ i. omega arith) (λ i. omega arith)))
+    (λ h. next_by time n s 21600 Funding e h (omega arith) refl (λ v p q. grind (arith, nat_tests)))
+    (λ l h. next_by time n s 50400 Funding e h (omega arith) refl (λ v p q. grind (arith, nat_tests)))
+    (λ l h. next_by time n s 61200 Deadline e h (omega arith) refl (λ v p q. grind (arith, nat_tests)))
+    (λ l h. next_by time n s 64800 Rollover e h (omega arith) refl (λ v p q. grind (arith, nat_tests)))
+    (λ l h. next_by time n s 79200 Funding e h (omega arith) refl (λ v p q. grind (arith, nat_tests)))
     (λ l.
     let r : (n * 86400 + 108000) % 86400 ≡ 21600 = omega arith in
     record {
       later = omega arith;
       is_due = rw r refl;
-      none_between = λ u h k. idle (u % 86400) (λ i. omega arith) (λ i. omega arith) (λ i. omega arith) (λ i. omega arith) (λ i. omega arith);
+      none_between = λ u h k. grind (arith, nat_tests);
     })

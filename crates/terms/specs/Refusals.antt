@@ -39,15 +39,14 @@ abbrev pub first : List Sentence → Option Refusal
 first [] = None
 first (s ∷ ss) = cond s.applies (Some s.refuses) (first ss)
 
--- what a call answers that has nothing to tell where it is taken
-abbrev pub answer : Option Refusal → Result (Unit {0}) Refusal
-answer None = Ok tt
-answer (Some e) = Err e
-
--- the same of a call that has something to tell
+-- what a call answers that has something to tell where it is taken
 abbrev pub told : {A : Type 0} → Option Refusal → A → Result A Refusal
 told None a = Ok a
 told (Some e) a = Err e
+
+-- the same of a call that has nothing to tell
+abbrev pub answer : Option Refusal → Result (Unit {0}) Refusal
+answer r = told r tt
 
 -- what a call leaves: at a refusal what there was
 abbrev pub unless : {X : Type 0} → Option Refusal → X → X → X

@@ -13,10 +13,5 @@ fn beyond(percent: u8, reference: u32, price: u32) -> bool
 pub fn is_outside(price: u32, base: Option<u32>, spot: u32) -> bool
     ensures { result ≡ outside price base spot }
 {
-    if let Some(base) = base {
-        if beyond(15, base, price) {
-            return true;
-        }
-    }
-    beyond(5, spot, price)
+    base.is_some_and(|base| beyond(15, base, price)) || beyond(5, spot, price)
 }

@@ -1,9 +1,11 @@
 ghost use Rattle.std.specs.Prelude.{◌≡◌, ℕ, ◌-◌, ◌*◌, ◌≤◌, pos, ◌+ℤ◌, ◌-ℤ◌, ◌*ℤ◌, unsigned_abs};
 ghost use Rattle.terms.specs.Closing.{share, sided, settlement};
 
+use crate::price::Price;
 use crate::side::Side;
 
 // The share of a lot's charge that closing some of its units takes, truncated toward nought.
+// What `split_charge` asks is handed on to this one step of it; a type for both numbers would ask the same of who makes one.
 fn share_of(charge: i64, closed: u32, quantity: u32) -> i64
     requires some { 1 ≤ quantity }
     requires part { closed ≤ quantity }
@@ -14,6 +16,7 @@ fn share_of(charge: i64, closed: u32, quantity: u32) -> i64
 }
 
 // That share, and what stays on the lot.
+#[tactic(auto, using(crate::proofs::Shares::rest_fits))]
 pub fn split_charge(charge: i64, closed: u32, quantity: u32) -> (i64, i64)
     requires some { 1 ≤ quantity }
     requires part { closed ≤ quantity }
@@ -30,14 +33,12 @@ pub fn split_charge(charge: i64, closed: u32, quantity: u32) -> (i64, i64)
 }
 
 // What so many units rise in sen from one price to another.
-fn rise(units: u32, opening: u32, closing: u32) -> i64
-    requires units { units ≤ 50000 }
-    requires opening { opening ≤ 100000000 }
-    requires closing { closing ≤ 100000000 }
-    ensures value { result ≡ pos units *ℤ (pos closing -ℤ pos opening) }
+fn rise(units: u32, opening: Price, closing: Price) -> i64
+    requires { units ≤ 50000 }
+    ensures value { result ≡ pos units *ℤ (pos closing.yen -ℤ pos opening.yen) }
     ensures bound { unsigned_abs result ≤ 5000000000000 }
 {
-    units as i64 * (closing as i64 - opening as i64)
+    units as i64 * (closing.yen as i64 - opening.yen as i64)
 }
 
 // A rise is a long lot's gain and a short lot's loss.
@@ -53,12 +54,11 @@ fn gain(side: Side, rise: i64) -> i64
 }
 
 // What the account gets in sen for units that are closed; below nought it pays.
-pub fn settlement(side: Side, opening: u32, closing: u32, closed: u32, share: i64) -> i64
-    requires opening { opening ≤ 100000000 }
-    requires closing { closing ≤ 100000000 }
+// The bounds are of plain numbers that callers add up, and a struct round each would be opened at every sum.
+pub fn settlement(side: Side, opening: Price, closing: Price, closed: u32, share: i64) -> i64
     requires closed { closed ≤ 50000 }
     requires share { unsigned_abs share ≤ 712400000000 }
-    ensures value { result ≡ settlement side opening closing closed share }
+    ensures value { result ≡ settlement side opening.yen closing.yen closed share }
     ensures bound { unsigned_abs result ≤ 76240000000000 }
 {
     gain(side, rise(closed, opening, closing)) - 100 * share

@@ -1,32 +1,30 @@
 ghost use Rattle.std.specs.Prelude.{◌≡◌};
 ghost use Rattle.terms.specs.Codes.{outcome_byte, outcome_read};
 
+use crate::codes::coded;
 use crate::refusal::Refusal;
 
 // How the ticket of a cut order is answered.
 #[derive(Clone, Copy, PartialEq, Eq, Debug)]
 pub enum Outcome {
-    HandedBack,
-    Sent,
+    HandedBack = 0,
+    Sent = 1,
 }
 
-impl Outcome {
-    pub fn from_byte(b: u8) -> Result<Outcome, Refusal>
+impl TryFrom<u8> for Outcome {
+    type Error = Refusal;
+
+    fn try_from(b: u8) -> Result<Outcome, Refusal>
         ensures { result ≡ outcome_read b }
     {
-        match b {
-            0 => Ok(Outcome::HandedBack),
-            1 => Ok(Outcome::Sent),
-            _ => Err(Refusal::CodeOutOfRange),
-        }
+        coded(Outcome::HandedBack, Outcome::Sent, b)
     }
+}
 
-    pub fn byte(self) -> u8
-        ensures { result ≡ outcome_byte self }
+impl From<Outcome> for u8 {
+    fn from(outcome: Outcome) -> u8
+        ensures { result ≡ outcome_byte outcome }
     {
-        match self {
-            Outcome::HandedBack => 0,
-            Outcome::Sent => 1,
-        }
+        outcome as u8
     }
 }

@@ -3,6 +3,7 @@ ghost use Rattle.std.specs.Prelude.{◌≤◌};
 mod methods;
 
 // What an opening fixes. No value of this type holds a number outside its range.
+// The fields are private, so that nothing sets one again; each is read by a method of its own.
 #[derive(Clone, Copy)]
 pub struct Settings {
     // millionths of a lot's notional a day

@@ -1,42 +1,30 @@
 ghost use Rattle.std.specs.Prelude.{◌≡◌};
-ghost use Rattle.terms.specs.Codes.{same_side, side_byte, side_read};
+ghost use Rattle.terms.specs.Codes.{side_byte, side_read};
 
+use crate::codes::coded;
 use crate::refusal::Refusal;
 
 // Of an order, to buy or to sell; of a lot, long where it was bought and short where it was sold.
 #[derive(Clone, Copy, PartialEq, Eq, Debug)]
 pub enum Side {
-    Buy,
-    Sell,
+    Buy = 0,
+    Sell = 1,
 }
 
-impl Side {
-    pub fn from_byte(b: u8) -> Result<Side, Refusal>
+impl TryFrom<u8> for Side {
+    type Error = Refusal;
+
+    fn try_from(b: u8) -> Result<Side, Refusal>
         ensures { result ≡ side_read b }
     {
-        match b {
-            0 => Ok(Side::Buy),
-            1 => Ok(Side::Sell),
-            _ => Err(Refusal::CodeOutOfRange),
-        }
+        coded(Side::Buy, Side::Sell, b)
     }
+}
 
-    // Whether both are the same side.
-    pub fn is(self, other: Side) -> bool
-        ensures { result ≡ same_side self other }
+impl From<Side> for u8 {
+    fn from(side: Side) -> u8
+        ensures { result ≡ side_byte side }
     {
-        match (self, other) {
-            (Side::Buy, Side::Buy) | (Side::Sell, Side::Sell) => true,
-            _ => false,
-        }
-    }
-
-    pub fn byte(self) -> u8
-        ensures { result ≡ side_byte self }
-    {
-        match self {
-            Side::Buy => 0,
-            Side::Sell => 1,
-        }
+        side as u8
     }
 }

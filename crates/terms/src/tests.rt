@@ -5,6 +5,7 @@ use crate::closing::{settlement, split_charge};
 use crate::margins::{is_at_cut_level, is_short_of, requirement, shortfall};
 use crate::moments::{Due, Moment};
 use crate::outcome::Outcome;
+use crate::price::Price;
 use crate::refusal::Refusal;
 use crate::settings::Settings;
 use crate::side::Side;
@@ -29,16 +30,12 @@ fn settings_bounds(rt: HostRuntime) {
 
 #[test]
 fn settings_tell_their_numbers(rt: HostRuntime) -> Result<(), Fail> {
-    match Settings::new(400, 3, 4_000, 50) {
-        Ok(s) => {
-            assert_eq!(rt; s.points_rate(), 400);
-            assert_eq!(rt; s.funding_divisor(), 3);
-            assert_eq!(rt; s.funding_cap(), 4_000);
-            assert_eq!(rt; s.margin_percent(), 50);
-            Ok(())
-        }
-        Err(_) => Err(Fail::new("refused")),
-    }
+    let s = Settings::new(400, 3, 4_000, 50)?;
+    assert_eq!(rt; s.points_rate(), 400);
+    assert_eq!(rt; s.funding_divisor(), 3);
+    assert_eq!(rt; s.funding_cap(), 4_000);
+    assert_eq!(rt; s.margin_percent(), 50);
+    Ok(())
 }
 
 #[test]
@@ -66,7 +63,7 @@ fn numbers_run_from_6_to_25(rt: HostRuntime) {
         Refusal::TransferUnlawful,
     ];
     for (i, e) in all.iter().enumerate() {
-        assert!(rt; usize::from(e.number()) == i.saturating_add(6));
+        assert!(rt; usize::from(u8::from(*e)) == i.saturating_add(6));
     }
 }
 
@@ -79,23 +76,20 @@ fn words_of_a_refusal(rt: HostRuntime) -> Result<(), Fail> {
 
 #[test]
 fn codes(rt: HostRuntime) {
-    assert_eq!(rt; Side::from_byte(0), Ok(Side::Buy));
-    assert_eq!(rt; Side::from_byte(1), Ok(Side::Sell));
-    assert_eq!(rt; Side::from_byte(2), Err(Refusal::CodeOutOfRange));
-    assert_eq!(rt; Side::from_byte(255), Err(Refusal::CodeOutOfRange));
-    assert_eq!(rt; Outcome::from_byte(0), Ok(Outcome::HandedBack));
-    assert_eq!(rt; Outcome::from_byte(1), Ok(Outcome::Sent));
-    assert_eq!(rt; Outcome::from_byte(2), Err(Refusal::CodeOutOfRange));
-    assert_eq!(rt; Side::Sell.byte(), 1);
-    assert_eq!(rt; Outcome::Sent.byte(), 1);
+    assert_eq!(rt; Side::try_from(0), Ok(Side::Buy));
+    assert_eq!(rt; Side::try_from(1), Ok(Side::Sell));
+    assert_eq!(rt; Side::try_from(2), Err(Refusal::CodeOutOfRange));
+    assert_eq!(rt; Side::try_from(255), Err(Refusal::CodeOutOfRange));
+    assert_eq!(rt; Outcome::try_from(0), Ok(Outcome::HandedBack));
+    assert_eq!(rt; Outcome::try_from(1), Ok(Outcome::Sent));
+    assert_eq!(rt; Outcome::try_from(2), Err(Refusal::CodeOutOfRange));
+    assert_eq!(rt; u8::from(Side::Sell), 1);
+    assert_eq!(rt; u8::from(Outcome::Sent), 1);
 }
 
 // Settings with which the worked figures are reckoned.
 fn with(points_rate: u32, margin_percent: u32) -> Result<Settings, Fail> {
-    match Settings::new(points_rate, 3, 4_000, margin_percent) {
-        Ok(s) => Ok(s),
-        Err(_) => Err(Fail::new("refused")),
-    }
+    Ok(Settings::new(points_rate, 3, 4_000, margin_percent)?)
 }
 
 #[test]
@@ -127,11 +121,23 @@ fn splits_and_settlements(rt: HostRuntime) {
         (i64::MIN, 0)
     );
     assert_eq!(rt;
-        settlement(Side::Buy, 10_000_000, 10_250_000, 100, 4_000),
+        settlement(
+            Side::Buy,
+            Price { yen: 10_000_000 },
+            Price { yen: 10_250_000 },
+            100,
+            4_000
+        ),
         24_600_000
     );
     assert_eq!(rt;
-        settlement(Side::Sell, 10_000_000, 10_250_000, 100, 4_000),
+        settlement(
+            Side::Sell,
+            Price { yen: 10_000_000 },
+            Price { yen: 10_250_000 },
+            100,
+            4_000
+        ),
         -25_400_000
     );
 }

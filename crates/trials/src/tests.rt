@@ -28,18 +28,12 @@ fn settings() -> Result<Settings, Fail> {
 
 // The number of the refusal, or 0 where the call was taken.
 fn told(r: Result<(), Refusal>) -> u8 {
-    match r {
-        Ok(()) => 0,
-        Err(why) => why.number(),
-    }
+    r.map_or_else(u8::from, |()| 0)
 }
 
 // The order's number, or the number of the refusal.
 fn numbered(r: Result<u32, Refusal>) -> Result<u32, u8> {
-    match r {
-        Ok(number) => Ok(number),
-        Err(why) => Err(why.number()),
-    }
+    r.map_err(u8::from)
 }
 
 #[test]

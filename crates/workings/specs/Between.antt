@@ -6,10 +6,14 @@ use Rattle.workings.specs.declared.number.NumberFault.{NumberFault}
 use Rattle.workings.specs.declared.number.NumberFault.TheVariants.{NoNumber, TooLarge}
 use Rattle.workings.specs.Numbers.{number_read}
 
+-- what a fault of a number is as one of a range
+abbrev pub range_fault : NumberFault → RangeFault
+range_fault NoNumber = range.NoNumber
+range_fault TooLarge = range.TooLarge
+
 abbrev pub at_least : ℕ → Result ℕ NumberFault → Result ℕ RangeFault
 at_least least (Ok n) = cond (nat_le least n) (Ok n) (Err range.TooSmall)
-at_least least (Err NoNumber) = Err range.NoNumber
-at_least least (Err TooLarge) = Err range.TooLarge
+at_least least (Err e) = Err (range_fault e)
 
 -- one or more decimal digits that write a number from least to most
 abbrev pub between_read : (least most : ℕ) → List ℕ → Result ℕ RangeFault
@@ -23,8 +27,7 @@ turned (Err TooLarge) = Err range.TooSmall
 
 abbrev pub kept : Result ℕ NumberFault → Result ℤ RangeFault
 kept (Ok n) = Ok (pos n)
-kept (Err NoNumber) = Err range.NoNumber
-kept (Err TooLarge) = Err range.TooLarge
+kept (Err e) = Err (range_fault e)
 
 -- digits, or `-` and digits, up to most on either side of nought
 abbrev pub signed_read : (most : ℕ) → List ℕ → Result ℤ RangeFault

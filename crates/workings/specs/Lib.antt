@@ -1,6 +1,7 @@
 pub mod Numbers
 pub mod Between
 pub mod Figures
+pub mod Keywords
 pub mod Topics
 pub mod Workings
 pub mod WorkFaults

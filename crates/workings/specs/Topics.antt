@@ -1,10 +1,14 @@
 -- The words that name topics of `work`, and the numbers that follow each.
-use Rattle.std.specs.Prelude.{ℕ, cond, List, [], ◌∷◌, Some, None, codes, Option}
+use Rattle.std.specs.Prelude.{ℕ, refl, cond, List, [], ◌∷◌, Some, None, codes, Option}
 use Rattle.std.specs.Str.{bytes_eq}
 use Rattle.workings.specs.declared.figure.Figure.{Figure}
 use Rattle.workings.specs.declared.figure.Figure.TheVariants.{Spot, Last, Price, Quantity, Rate, Divisor, Cap, Percent, Charge, Closed, Held}
 use Rattle.workings.specs.declared.topic.Topic.{Topic}
 use Rattle.workings.specs.declared.topic.Topic.TheVariants.{Points, Funding, Margin, Split}
+use Rattle.workings.specs.Keywords.{TellsApart}
+
+abbrev pub topics : List Topic
+topics = Points ∷ (Funding ∷ (Margin ∷ (Split ∷ [])))
 
 abbrev pub topic_word : Topic → List ℕ
 topic_word Points = codes "points"
@@ -24,3 +28,9 @@ topic_named w =
     (cond (bytes_eq w (codes "funding")) (Some Funding)
     (cond (bytes_eq w (codes "margin")) (Some Margin)
     (cond (bytes_eq w (codes "split")) (Some Split) None)))
+
+pub topics_apart : TellsApart topic_word topics
+topics_apart Points = refl
+topics_apart Funding = refl
+topics_apart Margin = refl
+topics_apart Split = refl

@@ -13,10 +13,10 @@ use Rattle.workings.specs.Topics.{topic_named}
 
 -- the topic under which a working is written
 abbrev pub topic_of : Working → Topic
-topic_of (Points s q r) = topic.Points
-topic_of (Funding l s g k q) = topic.Funding
-topic_of (Margin p q m) = topic.Margin
-topic_of (Split z c q) = topic.Split
+topic_of (Points w) = topic.Points
+topic_of (Funding w) = topic.Funding
+topic_of (Margin w) = topic.Margin
+topic_of (Split w) = topic.Split
 
 -- n is the number that a figure's text writes
 abbrev pub Reads : Figure → List ℕ → ℕ → Type 0
@@ -27,20 +27,20 @@ charge_read text = signed_read (figure_max Charge) text
 
 -- the texts after a topic's word, and the numbers that they write; of a split, the units that are closed go up to those that the lot holds
 abbrev pub Figured : List (List ℕ) → Working → Type 0
-Figured fs (Points s q r) = (length fs ≡ 3) × Reads Spot (slice_index_or fs 0 []) s × Reads Quantity (slice_index_or fs 1 []) q × Reads Rate (slice_index_or fs 2 []) r
-Figured fs (Funding l s g k q) = (length fs ≡ 5) × Reads Last (slice_index_or fs 0 []) l × Reads Spot (slice_index_or fs 1 []) s × Reads Divisor (slice_index_or fs 2 []) g × Reads Cap (slice_index_or fs 3 []) k × Reads Quantity (slice_index_or fs 4 []) q
-Figured fs (Margin p q m) = (length fs ≡ 3) × Reads Price (slice_index_or fs 0 []) p × Reads Quantity (slice_index_or fs 1 []) q × Reads Percent (slice_index_or fs 2 []) m
-Figured fs (Split z c q) = (length fs ≡ 3) × (charge_read (slice_index_or fs 0 []) ≡ Ok z) × (between_read 0 q (slice_index_or fs 1 []) ≡ Ok c) × Reads Held (slice_index_or fs 2 []) q
+Figured fs (Points w) = (length fs ≡ 3) × Reads Spot (slice_index_or fs 0 []) w.spot.value × Reads Quantity (slice_index_or fs 1 []) w.quantity.value × Reads Rate (slice_index_or fs 2 []) w.rate.value
+Figured fs (Funding w) = (length fs ≡ 5) × Reads Last (slice_index_or fs 0 []) w.last.value × Reads Spot (slice_index_or fs 1 []) w.spot.value × Reads Divisor (slice_index_or fs 2 []) w.divisor.value × Reads Cap (slice_index_or fs 3 []) w.cap.value × Reads Quantity (slice_index_or fs 4 []) w.quantity.value
+Figured fs (Margin w) = (length fs ≡ 3) × Reads Price (slice_index_or fs 0 []) w.price.value × Reads Quantity (slice_index_or fs 1 []) w.quantity.value × Reads Percent (slice_index_or fs 2 []) w.percent.value
+Figured fs (Split w) = (length fs ≡ 3) × (charge_read (slice_index_or fs 0 []) ≡ Ok w.charge) × (between_read 0 w.held.value (slice_index_or fs 1 []) ≡ Ok w.closed) × Reads Held (slice_index_or fs 2 []) w.held.value
 
 abbrev pub Within : Figure → ℕ → Type 0
 Within f n = (figure_min f ≤ n) × (n ≤ figure_max f)
 
 -- every number lies within its range
 abbrev pub InRange : Working → Type 0
-InRange (Points s q r) = Within Spot s × Within Quantity q × Within Rate r
-InRange (Funding l s g k q) = Within Last l × Within Spot s × Within Divisor g × Within Cap k × Within Quantity q
-InRange (Margin p q m) = Within Price p × Within Quantity q × Within Percent m
-InRange (Split z c q) = (unsigned_abs z ≤ figure_max Charge) × (c ≤ q) × Within Held q
+InRange (Points w) = Within Spot w.spot.value × Within Quantity w.quantity.value × Within Rate w.rate.value
+InRange (Funding w) = Within Last w.last.value × Within Spot w.spot.value × Within Divisor w.divisor.value × Within Cap w.cap.value × Within Quantity w.quantity.value
+InRange (Margin w) = Within Price w.price.value × Within Quantity w.quantity.value × Within Percent w.percent.value
+InRange (Split w) = (unsigned_abs w.charge ≤ figure_max Charge) × (w.closed ≤ w.held.value) × Within Held w.held.value
 
 -- the working of a topic that texts write
 pub record Makes (t : Topic) (fs : List (List ℕ)) (w : Working) : Type 0 where

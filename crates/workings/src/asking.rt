@@ -1,159 +1,126 @@
 // Reads the words after `work` as a working.
-ghost use Rattle.std.specs.Prelude.{◌≡◌, ◌≤◌, [], ◌∷◌, IfOk, Some, Ok, MatchResult, unsigned_abs};
+ghost use Rattle.std.specs.Prelude.{◌≡◌, ◌≤◌, IfOk, Ok, MatchResult, unsigned_abs};
 ghost use Rattle.workings.specs.declared.figure.Figure.TheVariants.{Charge, Closed};
-ghost use Rattle.workings.specs.declared.topic.Topic.TheVariants.{Points, Funding, Margin, Split};
+ghost use Rattle.workings.specs.declared.working.Working.TheVariants.{Points, Funding, Margin, Split};
 ghost use Rattle.workings.specs.Between.{between_read};
-ghost use Rattle.workings.specs.Figures.{figure_read};
 ghost use Rattle.workings.specs.Lines.{texts};
-ghost use Rattle.workings.specs.Topics.{topic_named};
-ghost use Rattle.workings.specs.Workings.{charge_read, Reads, Within, Makes, Asked};
-ghost use Rattle.workings.specs.WorkFaults.{NoTopicWord, Unfit};
+ghost use Rattle.workings.specs.Workings.{charge_read, Figured, InRange, Makes, Asked};
+ghost use Rattle.workings.specs.WorkFaults.{Unfit};
 
 use crate::between::{read_between, read_signed};
 use crate::figure::Figure;
-use crate::topic::{Topic, topic_named};
+use crate::ranged::{Cap, Divisor, Percent, Price, Quantity, Rate};
+use crate::topic::Topic;
 use crate::work_fault::WorkFault;
-use crate::working::Working;
+use crate::working::{FundingWork, MarginWork, PointsWork, SplitWork, Working};
 
 pub fn read_working<'a>(words: &[&'a str]) -> Result<Working, WorkFault<'a>>
     ensures { IfOk result (Asked (texts words.now)) }
 {
-    let [word, fields @ ..] = words else {
+    let Some((word, fields)) = words.split_first() else {
         return Err(WorkFault::NoWord);
     };
-    let topic = read_topic(word)?;
+    let topic = Topic::try_from(*word)?;
     read_figures(topic, fields)
-}
-
-fn read_topic(word: &str) -> Result<Topic, WorkFault<'_>>
-    ensures { MatchResult result (λ t. topic_named word.now ≡ Some t) (NoTopicWord word.now) }
-{
-    match topic_named(word) {
-        Some(topic) => Ok(topic),
-        None => Err(WorkFault::NoTopic(word)),
-    }
 }
 
 fn read_figures<'a>(topic: Topic, fields: &[&'a str]) -> Result<Working, WorkFault<'a>>
     ensures { IfOk result (Makes topic (texts fields.now)) }
 {
-    match (topic, fields) {
-        (Topic::Points, [spot, quantity, rate]) => read_points(spot, quantity, rate),
-        (Topic::Funding, [last, spot, divisor, millionths, quantity]) => {
-            read_funding(last, spot, divisor, millionths, quantity)
-        }
-        (Topic::Margin, [price, quantity, percent]) => read_margin(price, quantity, percent),
-        (Topic::Split, [charge, closed, quantity]) => read_split(charge, closed, quantity),
-        _ => Err(WorkFault::WrongCount {
-            topic,
-            given: fields.len(),
-        }),
+    match topic {
+        Topic::Points => read_points(fields).map(Working::Points),
+        Topic::Funding => read_funding(fields).map(Working::Funding),
+        Topic::Margin => read_margin(fields).map(Working::Margin),
+        Topic::Split => read_split(fields).map(Working::Split),
     }
 }
 
-fn read_points<'a>(
-    spot: &'a str,
-    quantity: &'a str,
-    rate: &'a str,
-) -> Result<Working, WorkFault<'a>>
-    ensures { IfOk result (Makes Points (spot.now ∷ (quantity.now ∷ (rate.now ∷ [])))) }
+// A topic is read by its own list of figures; what the lists share is `Ranged::read` and `wrong_count`.
+fn read_points<'a>(fields: &[&'a str]) -> Result<PointsWork, WorkFault<'a>>
+    ensures figures { IfOk result (λ w. Figured (texts fields.now) (Points w)) }
+    ensures ranges { IfOk result (λ w. InRange (Points w)) }
 {
-    let spot = read_figure(Figure::Spot, spot)? as u32;
-    let quantity = read_figure(Figure::Quantity, quantity)? as u32;
-    let rate = read_figure(Figure::Rate, rate)? as u32;
-    Ok(Working::Points {
-        spot,
-        quantity,
-        rate,
+    let [spot, quantity, rate] = fields else {
+        return Err(wrong_count(Topic::Points, fields));
+    };
+    Ok(PointsWork {
+        spot: Price::read(Figure::Spot, spot)?,
+        quantity: Quantity::read(Figure::Quantity, quantity)?,
+        rate: Rate::read(Figure::Rate, rate)?,
     })
 }
 
-fn read_funding<'a>(
-    last: &'a str,
-    spot: &'a str,
-    divisor: &'a str,
-    millionths: &'a str,
-    quantity: &'a str,
-) -> Result<Working, WorkFault<'a>>
-    ensures { IfOk result (Makes Funding (last.now ∷ (spot.now ∷ (divisor.now ∷ (millionths.now ∷ (quantity.now ∷ [])))))) }
+fn read_funding<'a>(fields: &[&'a str]) -> Result<FundingWork, WorkFault<'a>>
+    ensures figures { IfOk result (λ w. Figured (texts fields.now) (Funding w)) }
+    ensures ranges { IfOk result (λ w. InRange (Funding w)) }
 {
-    let last = read_figure(Figure::Last, last)? as u32;
-    let spot = read_figure(Figure::Spot, spot)? as u32;
-    let divisor = read_figure(Figure::Divisor, divisor)? as u32;
-    let millionths = read_figure(Figure::Cap, millionths)? as u32;
-    let quantity = read_figure(Figure::Quantity, quantity)? as u32;
-    Ok(Working::Funding {
-        last,
-        spot,
-        divisor,
-        millionths,
-        quantity,
+    let [last, spot, divisor, cap, quantity] = fields else {
+        return Err(wrong_count(Topic::Funding, fields));
+    };
+    Ok(FundingWork {
+        last: Price::read(Figure::Last, last)?,
+        spot: Price::read(Figure::Spot, spot)?,
+        divisor: Divisor::read(Figure::Divisor, divisor)?,
+        cap: Cap::read(Figure::Cap, cap)?,
+        quantity: Quantity::read(Figure::Quantity, quantity)?,
     })
 }
 
-fn read_margin<'a>(
-    price: &'a str,
-    quantity: &'a str,
-    percent: &'a str,
-) -> Result<Working, WorkFault<'a>>
-    ensures { IfOk result (Makes Margin (price.now ∷ (quantity.now ∷ (percent.now ∷ [])))) }
+fn read_margin<'a>(fields: &[&'a str]) -> Result<MarginWork, WorkFault<'a>>
+    ensures figures { IfOk result (λ w. Figured (texts fields.now) (Margin w)) }
+    ensures ranges { IfOk result (λ w. InRange (Margin w)) }
 {
-    let price = read_figure(Figure::Price, price)? as u32;
-    let quantity = read_figure(Figure::Quantity, quantity)? as u32;
-    let percent = read_figure(Figure::Percent, percent)? as u32;
-    Ok(Working::Margin {
-        price,
-        quantity,
-        percent,
+    let [price, quantity, percent] = fields else {
+        return Err(wrong_count(Topic::Margin, fields));
+    };
+    Ok(MarginWork {
+        price: Price::read(Figure::Price, price)?,
+        quantity: Quantity::read(Figure::Quantity, quantity)?,
+        percent: Percent::read(Figure::Percent, percent)?,
     })
 }
 
 // Q is read before C, which goes up to it.
-fn read_split<'a>(
-    charge: &'a str,
-    closed: &'a str,
-    quantity: &'a str,
-) -> Result<Working, WorkFault<'a>>
-    ensures { IfOk result (Makes Split (charge.now ∷ (closed.now ∷ (quantity.now ∷ [])))) }
+fn read_split<'a>(fields: &[&'a str]) -> Result<SplitWork, WorkFault<'a>>
+    ensures figures { IfOk result (λ w. Figured (texts fields.now) (Split w)) }
+    ensures ranges { IfOk result (λ w. InRange (Split w)) }
 {
+    let [charge, closed, held] = fields else {
+        return Err(wrong_count(Topic::Split, fields));
+    };
     let charge = read_charge(charge)?;
-    let quantity = read_figure(Figure::Held, quantity)? as u32;
-    let closed = read_closed(closed, quantity)?;
-    Ok(Working::Split {
+    let held = Quantity::read(Figure::Held, held)?;
+    let closed = read_closed(closed, held)?;
+    Ok(SplitWork {
         charge,
         closed,
-        quantity,
+        held,
     })
 }
 
-fn read_figure(figure: Figure, text: &str) -> Result<u64, WorkFault<'_>>
-    ensures reads { MatchResult result (Reads figure text.now) (Unfit figure text.now (figure_read figure text.now)) }
-    ensures within { IfOk result (Within figure) }
-{
-    match read_between(text, figure.min(), figure.max()) {
-        Ok(n) => Ok(n),
-        Err(why) => Err(WorkFault::NoFigure { figure, text, why }),
+fn wrong_count<'a>(topic: Topic, fields: &[&'a str]) -> WorkFault<'a> {
+    WorkFault::WrongCount {
+        topic,
+        given: fields.len(),
     }
 }
 
+// CHARGE has a sign and C goes up to Q, so neither is a `Ranged::read`; a function for the fault would take the same three.
 fn read_charge(text: &str) -> Result<i64, WorkFault<'_>>
     ensures reads { MatchResult result (λ z. charge_read text.now ≡ Ok z) (Unfit Charge text.now (charge_read text.now)) }
     ensures within { IfOk result (λ z. unsigned_abs z ≤ 712400000000) }
 {
     let figure = Figure::Charge;
-    match read_signed(text, figure.max()) {
-        Ok(z) => Ok(z),
-        Err(why) => Err(WorkFault::NoFigure { figure, text, why }),
-    }
+    read_signed(text, figure.max()).map_err(|why| WorkFault::NoFigure { figure, text, why })
 }
 
-fn read_closed(text: &str, quantity: u32) -> Result<u32, WorkFault<'_>>
-    ensures reads { MatchResult result (λ n. between_read 0 quantity text.now ≡ Ok n) (Unfit Closed text.now (between_read 0 quantity text.now)) }
-    ensures within { IfOk result (λ n. n ≤ quantity) }
+fn read_closed(text: &str, held: Quantity) -> Result<u32, WorkFault<'_>>
+    ensures reads { MatchResult result (λ n. between_read 0 held.value text.now ≡ Ok n) (Unfit Closed text.now (between_read 0 held.value text.now)) }
+    ensures within { IfOk result (λ n. n ≤ held.value) }
 {
     let figure = Figure::Closed;
-    match read_between(text, figure.min(), quantity as u64) {
-        Ok(n) => Ok(n as u32),
-        Err(why) => Err(WorkFault::NoFigure { figure, text, why }),
-    }
+    let closed = read_between(text, figure.min(), held.value as u64).map_err(
+        |why| WorkFault::NoFigure { figure, text, why },
+    )?;
+    Ok(closed as u32)
 }

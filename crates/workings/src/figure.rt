@@ -2,7 +2,9 @@
 ghost use Rattle.std.specs.Prelude.{◌≡◌};
 ghost use Rattle.workings.specs.Figures.{figure_name, figure_min, figure_max};
 
-#[derive(Clone, Copy)]
+use std::fmt;
+
+#[derive(Clone, Copy, Debug)]
 pub enum Figure {
     Spot,
     Last,
@@ -19,6 +21,7 @@ pub enum Figure {
 }
 
 impl Figure {
+    // No text is searched for among these names, so a figure is no `Keyword`; what is over fields and figures alike, `listed::Fields`, asks only for `Display`, which writes the name that the contract is over.
     pub(crate) fn name(self) -> &'static str
         ensures { result.now ≡ figure_name self }
     {
@@ -65,5 +68,11 @@ impl Figure {
             Figure::Cap => 4_000,
             Figure::Charge => 712_400_000_000,
         }
+    }
+}
+
+impl fmt::Display for Figure {
+    fn fmt<W: fmt::Write>(&self, f: &mut fmt::Formatter<W>) -> fmt::Result {
+        f.write_str(self.name())
     }
 }

@@ -4,11 +4,13 @@
 pub mod asking;
 pub mod between;
 pub mod figure;
+pub mod keyword;
+pub mod listed;
 pub mod money;
 pub mod number;
+pub mod ranged;
 pub mod shown;
 pub mod topic;
 pub mod work;
 pub mod work_fault;
-pub mod worked;
 pub mod working;

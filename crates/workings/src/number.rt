@@ -1,7 +1,7 @@
 ghost use Rattle.std.specs.Prelude.{◌≡◌};
 ghost use Rattle.workings.specs.Numbers.{numeral, number_read};
 
-// Why a text is not a number that is wanted.
+// Why a text is not a number that is wanted. No `RangeFault`: callers would tell of a number too small, which never comes.
 #[derive(Clone, Copy)]
 pub enum NumberFault {
     NoNumber,
@@ -15,26 +15,13 @@ pub fn read_number(text: &str, max: u64) -> Result<u64, NumberFault>
     if !is_numeral(text) {
         return Err(NumberFault::NoNumber);
     }
-    match text.parse::<u64>() {
-        Ok(n) => {
-            if n > max {
-                return Err(NumberFault::TooLarge);
-            }
-            Ok(n)
-        }
-        Err(_) => Err(NumberFault::TooLarge),
-    }
+    let number = text.parse::<u64>().ok();
+    number.filter(|n| *n <= max).ok_or(NumberFault::TooLarge)
 }
 
 // Whether the text is one or more decimal digits: `parse` would also take a sign.
 fn is_numeral(text: &str) -> bool
     ensures { result ≡ numeral text.now }
 {
-    let bytes = text.as_bytes();
-    for b in bytes {
-        if !b.is_ascii_digit() {
-            return false;
-        }
-    }
-    !text.is_empty()
+    !text.is_empty() && text.bytes().all(|b| b.is_ascii_digit())
 }

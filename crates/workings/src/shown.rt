@@ -3,28 +3,29 @@ ghost use Rattle.std.specs.Prelude.{◌≡◌};
 ghost use Rattle.workings.specs.Works.{holders_of, others_of};
 
 use crate::money::{Grouped, Signed};
-use crate::worked::{FundingWork, MarginWork, PointsWork, SplitWork, Worked};
+use crate::working::{FundingWork, MarginWork, PointsWork, SplitWork, Working};
 use std::fmt;
 use terms::Side;
 
-impl fmt::Display for Worked {
+impl fmt::Display for Working {
     fn fmt<W: fmt::Write>(&self, f: &mut fmt::Formatter<W>) -> fmt::Result {
         match *self {
-            Worked::Points(work) => show_points(work, f),
-            Worked::Funding(work) => show_funding(work, f),
-            Worked::Margin(work) => show_margin(work, f),
-            Worked::Split(work) => show_split(work, f),
+            Working::Points(work) => show_points(work, f),
+            Working::Funding(work) => show_funding(work, f),
+            Working::Margin(work) => show_margin(work, f),
+            Working::Split(work) => show_split(work, f),
         }
     }
 }
 
+// A text for each working: one for a product of any three numbers would take names, factors, divisor and rounding, to print them.
 fn show_points<W: fmt::Write>(work: PointsWork, f: &mut fmt::Formatter<W>) -> fmt::Result {
     write!(
         f,
         "points: {} x {} x {} = {}; / 100,000,000, rounded down: {} yen",
-        Grouped(work.spot as u128),
-        Grouped(work.quantity as u128),
-        Grouped(work.rate as u128),
+        work.spot,
+        work.quantity,
+        work.rate,
         Grouped(work.product()),
         Grouped(work.yen() as u128)
     )
@@ -34,8 +35,8 @@ fn show_funding<W: fmt::Write>(work: FundingWork, f: &mut fmt::Formatter<W>) -> 
     write!(
         f,
         "funding: ({} - {}) / {}, truncated toward nought: {}; ",
-        Grouped(work.last as u128),
-        Grouped(work.spot as u128),
+        work.last,
+        work.spot,
         work.divisor,
         Signed(work.divided() as i128)
     )?;
@@ -43,8 +44,8 @@ fn show_funding<W: fmt::Write>(work: FundingWork, f: &mut fmt::Formatter<W>) -> 
         f,
         "held within {} ({} x {} / 1,000,000, rounded down): {}; ",
         Grouped(work.bound() as u128),
-        Grouped(work.spot as u128),
-        Grouped(work.millionths as u128),
+        work.spot,
+        work.cap,
         Signed(work.difference() as i128)
     )?;
     match work.payer() {
@@ -58,35 +59,25 @@ fn show_payment<W: fmt::Write>(
     payer: Side,
     f: &mut fmt::Formatter<W>,
 ) -> fmt::Result {
+    let (payers, receivers) = holders_of(payer);
     write!(
         f,
-        "{} pay {} x {} / 100, rounded up: {} yen; {} receive it rounded down: {} yen",
-        holders_of(payer),
+        "{payers} pay {} x {} / 100, rounded up: {} yen; {receivers} receive it rounded down: {} yen",
         Grouped(work.difference().unsigned_abs() as u128),
-        Grouped(work.quantity as u128),
+        work.quantity,
         Grouped(work.paid() as u128),
-        others_of(payer),
         Grouped(work.received() as u128)
     )
 }
 
-// Those that hold lots of a side.
-fn holders_of(side: Side) -> &'static str
-    ensures { result.now ≡ holders_of side }
+// Those that hold lots of the side that pays, and those that hold lots of the other.
+fn holders_of(payer: Side) -> (&'static str, &'static str)
+    ensures pay { result.0.now ≡ holders_of payer }
+    ensures receive { result.1.now ≡ others_of payer }
 {
-    match side {
-        Side::Buy => "longs",
-        Side::Sell => "shorts",
-    }
-}
-
-// Those that hold lots of the other side.
-fn others_of(side: Side) -> &'static str
-    ensures { result.now ≡ others_of side }
-{
-    match side {
-        Side::Buy => holders_of(Side::Sell),
-        Side::Sell => holders_of(Side::Buy),
+    match payer {
+        Side::Buy => ("longs", "shorts"),
+        Side::Sell => ("shorts", "longs"),
     }
 }
 
@@ -94,8 +85,8 @@ fn show_margin<W: fmt::Write>(work: MarginWork, f: &mut fmt::Formatter<W>) -> fm
     write!(
         f,
         "margin: {} x {} x {} = {}; / 10,000, rounded up: {} yen",
-        Grouped(work.price as u128),
-        Grouped(work.quantity as u128),
+        work.price,
+        work.quantity,
         work.percent,
         Grouped(work.product()),
         Grouped(work.yen() as u128)
@@ -109,7 +100,7 @@ fn show_split<W: fmt::Write>(work: SplitWork, f: &mut fmt::Formatter<W>) -> fmt:
         "split: {} x {} / {}, truncated toward nought: {} yen are taken, {} yen stay",
         Signed(work.charge as i128),
         Grouped(work.closed as u128),
-        Grouped(work.held as u128),
+        work.held,
         Signed(taken as i128),
         Signed(stays as i128)
     )

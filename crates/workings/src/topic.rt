@@ -1,10 +1,14 @@
 // What `work` can show, and the numbers that each topic takes.
-ghost use Rattle.std.specs.Prelude.{◌≡◌};
-ghost use Rattle.workings.specs.Topics.{topic_named, topic_word, figures_of};
+ghost use Rattle.std.specs.Prelude.{◌≡◌, Some, MatchResult};
+ghost use Rattle.workings.specs.Topics.{topics, topic_named, topic_word, topics_apart, figures_of};
+ghost use Rattle.workings.specs.WorkFaults.{NoTopicWord};
 
 use crate::figure::Figure;
+use crate::keyword::{Keyword, named};
+use crate::work_fault::WorkFault;
+use std::fmt;
 
-#[derive(Clone, Copy)]
+#[derive(Clone, Copy, Debug)]
 pub enum Topic {
     Points,
     Funding,
@@ -12,24 +16,21 @@ pub enum Topic {
     Split,
 }
 
+// An enum doesn't list its variants.
 pub static TOPICS: [Topic; 4] = [Topic::Points, Topic::Funding, Topic::Margin, Topic::Split];
 
-pub(crate) fn topic_named(word: &str) -> Option<Topic>
-    ensures { result ≡ topic_named word.now }
-{
-    match word {
-        "points" => Some(Topic::Points),
-        "funding" => Some(Topic::Funding),
-        "margin" => Some(Topic::Margin),
-        "split" => Some(Topic::Split),
-        _ => None,
-    }
-}
+impl Keyword for Topic {
+    ghost all = { topics };
 
-impl Topic {
-    pub(crate) fn word(self) -> &'static str
-        ensures { result.now ≡ topic_word self }
-    {
+    ghost word = { topic_word };
+
+    ghost apart = { topics_apart };
+
+    fn all() -> &'static [Topic] {
+        &TOPICS
+    }
+
+    fn word(self) -> &'static str {
         match self {
             Topic::Points => "points",
             Topic::Funding => "funding",
@@ -37,7 +38,25 @@ impl Topic {
             Topic::Split => "split",
         }
     }
+}
 
+impl<'a> TryFrom<&'a str> for Topic {
+    type Error = WorkFault<'a>;
+
+    fn try_from(word: &'a str) -> Result<Topic, WorkFault<'a>>
+        ensures { MatchResult result (λ t. topic_named word.now ≡ Some t) (NoTopicWord word.now) }
+    {
+        named(word).ok_or(WorkFault::NoTopic(word))
+    }
+}
+
+impl fmt::Display for Topic {
+    fn fmt<W: fmt::Write>(&self, f: &mut fmt::Formatter<W>) -> fmt::Result {
+        f.write_str(self.word())
+    }
+}
+
+impl Topic {
     pub(crate) fn figures(self) -> &'static [Figure]
         ensures { result.now ≡ figures_of self }
     {

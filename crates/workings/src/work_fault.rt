@@ -1,17 +1,23 @@
 use crate::between::RangeFault;
 use crate::figure::Figure;
+use crate::listed::{Fields, Joined};
 use crate::topic::{TOPICS, Topic};
 use std::fmt;
+use thiserror::Error;
 
 // Why the words after `work` cannot be read.
-#[derive(Clone, Copy)]
+#[derive(Clone, Copy, Debug, Drop, Error)]
 pub enum WorkFault<'a> {
+    #[error("work takes a topic ({})", Joined(&TOPICS, ", "))]
     NoWord,
+    #[error("'{0}' is nothing to work ({topics})", topics = Joined(&TOPICS, ", "))]
     NoTopic(&'a str),
+    #[error("work {topic} takes {figures}, {given} given", figures = Fields(.topic.figures()))]
     WrongCount {
         topic: Topic,
         given: usize,
     },
+    #[error("{figure} '{text}' is {misfit}", misfit = Misfit(*.figure, *.why))]
     NoFigure {
         figure: Figure,
         text: &'a str,
@@ -19,61 +25,24 @@ pub enum WorkFault<'a> {
     },
 }
 
-impl fmt::Display for WorkFault<'_> {
+// Why a text is no number of a figure.
+#[derive(Clone, Copy)]
+struct Misfit(Figure, RangeFault);
+
+// A charge may be as far below nought as above it, and no more units are closed than the lot holds. By hand: the words go by figure and fault together.
+impl fmt::Display for Misfit {
     fn fmt<W: fmt::Write>(&self, f: &mut fmt::Formatter<W>) -> fmt::Result {
-        match *self {
-            WorkFault::NoWord => {
-                f.write_str("work takes a topic (")?;
-                list_topics(f)
+        let figure = self.0;
+        match (self.1, figure) {
+            (RangeFault::NoNumber, _) => f.write_str("no whole number"),
+            (RangeFault::TooSmall, Figure::Charge) => {
+                write!(f, "too small (at least -{})", figure.max())
             }
-            WorkFault::NoTopic(word) => {
-                write!(f, "'{word}' is nothing to work (")?;
-                list_topics(f)
+            (RangeFault::TooSmall, _) => write!(f, "too small (at least {})", figure.min()),
+            (RangeFault::TooLarge, Figure::Closed) => {
+                write!(f, "too large (at most {})", Figure::Held)
             }
-            WorkFault::WrongCount { topic, given } => {
-                let figures = topic.figures();
-                write!(f, "work {topic} takes {} fields (", figures.len())?;
-                f.write_joined(figures.iter().copied(), " ")?;
-                write!(f, "), {given} given")
-            }
-            WorkFault::NoFigure { figure, text, why } => {
-                write!(f, "{figure} '{text}' is ")?;
-                show_range(figure, why, f)
-            }
+            (RangeFault::TooLarge, _) => write!(f, "too large (at most {})", figure.max()),
         }
-    }
-}
-
-fn list_topics<W: fmt::Write>(f: &mut fmt::Formatter<W>) -> fmt::Result {
-    f.write_joined(TOPICS.iter().copied(), ", ")?;
-    f.write_str(")")
-}
-
-// A charge may be as far below nought as above it, and no more units are closed than the lot holds.
-fn show_range<W: fmt::Write>(
-    figure: Figure,
-    why: RangeFault,
-    f: &mut fmt::Formatter<W>,
-) -> fmt::Result {
-    match (why, figure) {
-        (RangeFault::NoNumber, _) => f.write_str("no whole number"),
-        (RangeFault::TooSmall, Figure::Charge) => {
-            write!(f, "too small (at least -{})", figure.max())
-        }
-        (RangeFault::TooSmall, _) => write!(f, "too small (at least {})", figure.min()),
-        (RangeFault::TooLarge, Figure::Closed) => write!(f, "too large (at most {})", Figure::Held),
-        (RangeFault::TooLarge, _) => write!(f, "too large (at most {})", figure.max()),
-    }
-}
-
-impl fmt::Display for Topic {
-    fn fmt<W: fmt::Write>(&self, f: &mut fmt::Formatter<W>) -> fmt::Result {
-        f.write_str(self.word())
-    }
-}
-
-impl fmt::Display for Figure {
-    fn fmt<W: fmt::Write>(&self, f: &mut fmt::Formatter<W>) -> fmt::Result {
-        f.write_str(self.name())
     }
 }

@@ -1,7 +1,7 @@
 ghost use Rattle.std.specs.Prelude.{◌≡◌, ◌≤◌, min, true, [], ◌∷◌, ◌++◌, length, drop, is_ok, is_err, unsigned_abs};
 ghost use Rattle.slots.specs.Items.{items, free};
 ghost use Rattle.terms.specs.Refusals.{answer};
-ghost use Rattle.book.specs.Meaning.{Lawful, fresh, shift, transfer_refusal, transferred};
+ghost use Rattle.book.specs.Meaning.{fresh, shift, transfer_refusal, transferred};
 ghost use Rattle.book.specs.Entries.{Proper, entry};
 ghost use Rattle.book.specs.Journal.{journal_meaning};
 
@@ -13,18 +13,21 @@ use slots::List;
 use terms::Refusal;
 use terms::ranges::ENTRIES_MAX;
 
-// What a lawful entry adds to the balance of an account.
-fn effect(e: Entry, account: u8) -> i64
-    requires { Proper e }
-    ensures value { result ≡ shift e.payer e.payee e.amount account }
-    ensures bound { unsigned_abs result ≤ 80000000000000 }
-{
-    if e.payee == account {
-        e.amount as i64
-    } else if e.payer == account {
-        -(e.amount as i64)
-    } else {
-        0
+impl Entry {
+    // What a lawful entry adds to the balance of an account.
+    #[tactic(auto, unfolding(crate::specs::Meaning::shift, crate::specs::Meaning::only))]
+    fn effect(&self, account: u8) -> i64
+        requires { Proper self.now }
+        ensures value { result ≡ shift self.now.payer self.now.payee self.now.amount account }
+        ensures bound { unsigned_abs result ≤ 80000000000000 }
+    {
+        if self.payee == account {
+            self.amount as i64
+        } else if self.payer == account {
+            -(self.amount as i64)
+        } else {
+            0
+        }
     }
 }
 
@@ -42,12 +45,14 @@ impl<'a> JournalBook<'a> {
 impl<'a> Book for JournalBook<'a> {
     ghost meaning = { journal_meaning };
 
+    ghost lawful = { λ b. b.adds_up };
+
     // Beyond what a book owes: the entry stands behind the earlier ones, and the slots past it are as they were.
+    // A method that adds clauses has to repeat those of its trait: left out, they are not found.
     fn transfer(&mut self, payer: u8, payee: u8, amount: u64) -> Result<(), Refusal>
         ensures answers { result ≡ answer (transfer_refusal (journal_meaning self.old).left payer payee amount) }
         ensures leaves { journal_meaning self.new ≡ transferred (journal_meaning self.old) payer payee amount }
         ensures same { is_err result ≡ true → self.new ≡ self.old }
-        ensures lawful { Lawful (journal_meaning self.new) }
         ensures entries { is_ok result ≡ true → items self.new.entries ≡ items self.old.entries ++ entry payer payee amount ∷ [] }
         ensures slots { is_ok result ≡ true → free self.new.entries ≡ drop 1 (free self.old.entries) }
     {
@@ -62,8 +67,8 @@ impl<'a> Book for JournalBook<'a> {
 
     fn balance(&self, account: u8) -> i64 {
         let mut sum = 0;
-        for i in 0..self.entries.len() {
-            sum = sum + effect(self.entries.get(i), account);
+        for entry in self.entries.as_slice() {
+            sum += entry.effect(account);
         }
         sum
     }

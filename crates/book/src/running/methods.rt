@@ -1,7 +1,7 @@
 ghost use Rattle.std.specs.Prelude.{◌≡◌, ◌+◌, ◌*◌, ◌≤◌, min, pos, slice_index_or, unsigned_abs};
 ghost use Rattle.book.specs.Meaning.{fresh};
 ghost use Rattle.book.specs.Balances.{added, kept};
-ghost use Rattle.book.specs.Running.{running_meaning};
+ghost use Rattle.book.specs.Running.{running_meaning, lawful_running};
 
 use crate::admission::admit;
 use crate::book::Book;
@@ -15,8 +15,7 @@ fn add(balances: &mut [i64; 256], account: u8, z: i64)
     requires change { unsigned_abs z ≤ 80000000000000 }
     ensures { balances.new ≡ added balances.old account z }
 {
-    let old = balances[account as usize];
-    balances[account as usize] = old + z;
+    balances[account as usize] += z;
 }
 
 impl RunningBook {
@@ -35,12 +34,14 @@ impl RunningBook {
 impl Book for RunningBook {
     ghost meaning = { running_meaning };
 
+    ghost lawful = { lawful_running };
+
     fn transfer(&mut self, payer: u8, payee: u8, amount: u64) -> Result<(), Refusal> {
         admit(self.left, payer, payee, amount)?;
         add(&mut self.balances, payer, -(amount as i64));
         add(&mut self.balances, payee, amount as i64);
-        self.made = self.made + 1;
-        self.left = self.left - 1;
+        self.made += 1;
+        self.left -= 1;
         Ok(())
     }
 

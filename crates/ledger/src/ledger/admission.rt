@@ -1,40 +1,57 @@
 // Why a call is refused, before anything is written.
-ghost use Rattle.std.specs.Prelude.{◌≡◌, ℕ, ◌≤◌, true};
+ghost use Rattle.std.specs.Prelude.{◌≡◌, ℕ, ◌≤◌, true, false, Some, None, MatchResult};
 ghost use Rattle.terms.specs.Codes.{side_of};
 ghost use Rattle.terms.specs.Refusals.{first, told, answer};
 ghost use Rattle.orders.specs.Orders.{lawful_order};
-ghost use Rattle.rules.specs.Calls.{withdraw_sentences, order_forms, order_sentences, plain_order, oversized, uncovered, exhausted};
+ghost use Rattle.rules.specs.Calls.{withdraw_sentences, order_forms, order_sentences, plain_order, price_refusal, oversized, uncovered, exhausted};
 ghost use Rattle.ledger.specs.View.{view};
 
 use crate::ledger::Ledger;
 use accounts::review::{is_open, is_sound};
 use accounts::withdrawals::exceeds;
 use book::Book;
-use lots::positions::position;
+use book::deposits::admit_payment;
 use orders::Order;
-use orders::margins::{margin, ordered};
+use orders::margins::margin;
 use terms::margins::is_short_of;
 use terms::ranges::{
-    ORDER_NUMBER_MAX, ORDER_QUANTITY_MAX, PAYMENT_MAX, POSITION_MAX, PRICE_MAX, PROPRIETARY,
-    SEN_PER_YEN,
+    ORDER_NUMBER_MAX, ORDER_QUANTITY_MAX, POSITION_MAX, PRICE_MAX, PROPRIETARY, SEN_PER_YEN,
 };
-use terms::{Refusal, Side};
+use terms::{Price, Refusal, Side};
 
-// An order's account, side, price and quantity are ones that an order can have.
-pub(crate) fn admit_form(account: u8, side: u8, price: u32, quantity: u32) -> Result<Side, Refusal>
-    ensures { result ≡ told (first (order_forms account side price quantity)) (side_of side) }
+// A price is one that can come.
+pub(crate) fn admit_price(price: u32) -> Result<Price, Refusal>
+    ensures { MatchResult result (λ p. (price_refusal price ≡ None) × (p.yen ≡ price)) (λ e. price_refusal price ≡ Some e) }
 {
+    if price < 1 || price > PRICE_MAX {
+        return Err(Refusal::PriceOutOfRange);
+    }
+    Ok(Price { yen: price })
+}
+
+// The order that is asked for, before it has a number: its account, side, price and quantity are ones that an order can have.
+pub(crate) fn admit_form(account: u8, side: u8, price: u32, quantity: u32) -> Result<Order, Refusal>
+    ensures { result ≡ told (first (order_forms account side price quantity)) (plain_order 0 account (side_of side) price quantity) }
+{
+    // as in `admit_payment`: a function for one test would be longer than it
     if account < PROPRIETARY {
         return Err(Refusal::AccountOutOfRange);
     }
-    let side = Side::from_byte(side)?;
+    let side = Side::try_from(side)?;
     if price > PRICE_MAX {
         return Err(Refusal::PriceOutOfRange);
     }
     if quantity < 1 || quantity > ORDER_QUANTITY_MAX {
         return Err(Refusal::QuantityOutOfRange);
     }
-    Ok(side)
+    Ok(Order {
+        number: 0,
+        account,
+        side,
+        price,
+        quantity,
+        cut: false,
+    })
 }
 
 impl Ledger<'_> {
@@ -47,12 +64,7 @@ impl Ledger<'_> {
     ) -> Result<(), Refusal>
         ensures { result ≡ answer (first (withdraw_sentences account yen (view self.now) (B.meaning book.now))) }
     {
-        if account < PROPRIETARY {
-            return Err(Refusal::AccountOutOfRange);
-        }
-        if yen < 1 || yen > PAYMENT_MAX {
-            return Err(Refusal::PaymentOutOfRange);
-        }
+        admit_payment(account, yen)?;
         if !is_sound(self.accounts.state(account)) {
             return Err(Refusal::WrongAccountState);
         }
@@ -69,8 +81,8 @@ impl Ledger<'_> {
         requires { order.quantity ≤ 10000 }
         ensures { result ≡ oversized order (view self.now) }
     {
-        let ordered = ordered(&self.orders, order.account, order.side);
-        let held = position(&self.lots, order.account, order.side);
+        let ordered = self.orders.ordered(order.account, order.side);
+        let held = self.lots.position(order.account, order.side);
         order.quantity + ordered + held > POSITION_MAX
     }
 
@@ -91,36 +103,21 @@ impl Ledger<'_> {
     fn is_exhausted(&self) -> bool
         ensures { result ≡ exhausted (view self.now) }
     {
-        self.orders.room() == 0 || self.issued == ORDER_NUMBER_MAX
+        self.orders.list.room() == 0 || self.issued == ORDER_NUMBER_MAX
     }
 
-    // An order of a lawful form, whatever its number will be.
-    pub(crate) fn admit_order<B: Book>(
-        &self,
-        book: &B,
-        account: u8,
-        side: Side,
-        price: u32,
-        quantity: u32,
-    ) -> Result<(), Refusal>
-        requires account { 2 ≤ account }
-        requires price { price ≤ 100000000 }
-        requires some { 1 ≤ quantity }
-        requires few { quantity ≤ 10000 }
-        ensures { (n : ℕ) → result ≡ answer (first (order_sentences (plain_order n account side price quantity) (view self.now) (B.meaning book.now))) }
+    // An order of a lawful form, whatever its number will be. That is asked and no fact of `Order`: slots that a host lends may hold any.
+    #[tactic(auto, using(rules::proofs::Entering::margin_any))]
+    pub(crate) fn admit_order<B: Book>(&self, book: &B, order: Order) -> Result<(), Refusal>
+        requires lawful { lawful_order order ≡ true }
+        requires few { order.quantity ≤ 10000 }
+        requires plain { order.cut ≡ false }
+        ensures { (n : ℕ) → result ≡ answer (first (order_sentences (plain_order n order.account order.side order.price order.quantity) (view self.now) (B.meaning book.now))) }
     {
-        let order = Order {
-            number: 0,
-            account,
-            side,
-            price,
-            quantity,
-            cut: false,
-        };
         if self.spot.is_none() {
             return Err(Refusal::NoSpotPrice);
         }
-        if !is_open(self.accounts.state(account)) {
+        if !is_open(self.accounts.state(order.account)) {
             return Err(Refusal::WrongAccountState);
         }
         if self.is_oversized(order) {

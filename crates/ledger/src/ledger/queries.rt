@@ -6,12 +6,12 @@ ghost use Rattle.rules.specs.Calls.{price_refusal};
 ghost use Rattle.ledger.specs.View.{view, status_of};
 
 use crate::ledger::Ledger;
+use crate::ledger::admission::admit_price;
 use crate::status::Status;
 use accounts::AccountState;
 use book::Book;
-use lots::valuation::{holdings, worth_of_all};
 use orders::Order;
-use terms::ranges::{COMPANY, PRICE_MAX};
+use terms::ranges::COMPANY;
 use terms::{Lot, Refusal};
 
 // Nothing here alters the ledger or the book.
@@ -22,13 +22,13 @@ impl Ledger<'_> {
         ensures kept { Kept (view self.now) }
     {
         Status {
-            time: self.time,
+            time: self.lots.time,
             spot: self.spot,
             last: self.last,
             halt: self.halt,
             issued: self.issued,
-            lots: self.lots.len(),
-            orders: self.orders.len(),
+            lots: self.lots.list.len(),
+            orders: self.orders.list.len(),
         }
     }
 
@@ -42,33 +42,25 @@ impl Ledger<'_> {
     pub fn lot(&self, i: usize) -> Option<Lot>
         ensures { MatchOption result (length (view self.now).lots ≤ i) (λ l. (i < length (view self.now).lots) × (l ≡ slice_index_or (view self.now).lots i l)) }
     {
-        if i >= self.lots.len() {
-            return None;
-        }
-        Some(self.lots.get(i))
+        self.lots.list.as_slice().get(i).copied()
     }
 
     // The order at a place, if there is one.
     pub fn order_at(&self, i: usize) -> Option<Order>
         ensures { MatchOption result (length (view self.now).orders ≤ i) (λ o. (i < length (view self.now).orders) × (o ≡ slice_index_or (view self.now).orders i o)) }
     {
-        if i >= self.orders.len() {
-            return None;
-        }
-        Some(self.orders.get(i))
+        self.orders.list.as_slice().get(i).copied()
     }
 
     // What an account holds in sen where all lots are closed out at a price; the company stands against every lot. Refused where the price is out of range.
     pub fn closed_out<B: Book>(&self, book: &B, account: u8, price: u32) -> Result<i64, Refusal>
         ensures { result ≡ told (price_refusal price) (closed_out (view self.now) (B.meaning book.now) (pos price) account) }
     {
-        if price < 1 || price > PRICE_MAX {
-            return Err(Refusal::PriceOutOfRange);
-        }
+        let price = admit_price(price)?;
         let balance = book.balance(account);
         if account == COMPANY {
-            return Ok(balance - worth_of_all(&self.lots, self.time, price));
+            return Ok(balance - self.lots.worth_of_all(price));
         }
-        Ok(balance + holdings(&self.lots, self.time, price)[account as usize].worth)
+        Ok(balance + self.lots.holdings(price)[account as usize].worth)
     }
 }

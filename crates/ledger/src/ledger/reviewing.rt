@@ -1,5 +1,5 @@
 ghost use Rattle.std.specs.Prelude.{◌≡◌, ◌≤◌};
-ghost use Rattle.rules.specs.Valuation.{price_or, spot_of, mark_of, standing, reviewed, call_cleared};
+ghost use Rattle.rules.specs.Valuation.{spot_of, mark_of, standing, reviewed, call_cleared};
 ghost use Rattle.ledger.specs.View.{view, Untouched};
 
 use crate::ledger::Ledger;
@@ -8,68 +8,61 @@ use accounts::review::clear;
 use book::Book;
 use reviews::review::review;
 use reviews::standing::standing_of;
-
-// A price, or another where none has come.
-fn price_or(price: u32, come: Option<u32>) -> u32
-    ensures { result ≡ price_or price come }
-{
-    match come {
-        Some(p) => p,
-        None => price,
-    }
-}
+use terms::{Price, Valuation};
 
 impl Ledger<'_> {
-    // Spot, or 0 before the first.
-    pub(crate) fn spot_or_nought(&self) -> u32
-        ensures value { result ≡ spot_of (view self.now) }
-        ensures bound { result ≤ 100000000 }
+    // Spot, or 0 before the first: then there is no lot and no order that it could value, so an Option would be unwrapped to no purpose.
+    fn spot_or_nought(&self) -> Price
+        ensures { result.yen ≡ spot_of (view self.now) }
     {
-        price_or(0, self.spot)
+        Price {
+            yen: self.spot.unwrap_or(0),
+        }
     }
 
     // The price that equity and market orders are valued at: the last CFD price, or spot before any fill.
-    pub(crate) fn mark(&self) -> u32
-        ensures value { result ≡ mark_of (view self.now) }
-        ensures bound { result ≤ 100000000 }
+    pub(crate) fn mark(&self) -> Price
+        ensures { result.yen ≡ mark_of (view self.now) }
     {
-        price_or(self.spot_or_nought(), self.last)
+        Price {
+            yen: self.last.unwrap_or(self.spot_or_nought().yen),
+        }
     }
 
-    // How an account stands: equity, requirement, margin and units.
+    // What the accounts are valued by.
+    fn valuation(&self) -> Valuation
+        ensures settings { result.settings ≡ self.now.settings }
+        ensures spot { result.spot ≡ spot_of (view self.now) }
+        ensures mark { result.mark.yen ≡ mark_of (view self.now) }
+    {
+        Valuation {
+            settings: self.settings,
+            spot: self.spot_or_nought().yen,
+            mark: self.mark(),
+        }
+    }
+
+    // How an account stands: equity, requirement, margin and units. The bound is promised as in `standing_of`.
     pub fn standing<B: Book>(&self, book: &B, account: u8) -> Standing
         ensures value { result ≡ standing (view self.now) (B.meaning book.now) account }
         ensures small { result.margin ≤ 200000000000000000 }
     {
-        standing_of(
-            book,
-            account,
-            &self.lots,
-            &self.orders,
-            &self.settings,
-            self.time,
-            self.spot_or_nought(),
-            self.mark(),
-        )
+        standing_of(book, account, &self.lots, &self.orders, &self.valuation())
     }
 
     // Reviews every account, as every taken call ends.
+    #[tactic(auto, using(orders::proofs::Numbers::rising_kept, rules::proofs::Reviewing::valued_kept))]
     pub(crate) fn review<B: Book>(&mut self, book: &B)
         ensures view { view self.new ≡ reviewed (B.meaning book.now) (view self.old) }
         ensures slots { Untouched 0 self.old self.new }
     {
-        let time = self.time;
-        let spot = self.spot_or_nought();
-        let mark = self.mark();
+        let valuation = self.valuation();
         review(
             book,
             &mut self.accounts,
             &self.lots,
             &mut self.orders,
-            &self.settings,
-            time,
-            spot,
-            mark,
+            &valuation,
         );
     }
 

@@ -19,16 +19,11 @@ impl Settings {
         ensures test { is_ok result ≡ settings_lawful points_rate funding_divisor funding_cap margin_percent }
         ensures cases { MatchResult result (Holds points_rate funding_divisor funding_cap margin_percent) (λ e. e ≡ SettingOutOfRange) }
     {
-        if points_rate > POINTS_RATE_MAX {
-            return Err(Refusal::SettingOutOfRange);
-        }
-        if funding_divisor < FUNDING_DIVISOR_MIN || funding_divisor > FUNDING_DIVISOR_MAX {
-            return Err(Refusal::SettingOutOfRange);
-        }
-        if funding_cap > FUNDING_CAP_MAX {
-            return Err(Refusal::SettingOutOfRange);
-        }
-        if margin_percent < MARGIN_PERCENT_MIN || margin_percent > MARGIN_PERCENT_MAX {
+        let is_lawful = points_rate <= POINTS_RATE_MAX
+            && (FUNDING_DIVISOR_MIN..=FUNDING_DIVISOR_MAX).contains(&funding_divisor)
+            && funding_cap <= FUNDING_CAP_MAX
+            && (MARGIN_PERCENT_MIN..=MARGIN_PERCENT_MAX).contains(&margin_percent);
+        if !is_lawful {
             return Err(Refusal::SettingOutOfRange);
         }
         Ok(Settings {

@@ -1,14 +1,11 @@
-use Rattle.std.proofs.Common.{sym, ◌∙◌}
-use Rattle.workings.proofs.Scanning.{skipped_none, skipped_white, skipped_dark}
+use Rattle.std.proofs.Common.{◌≡◌, ap, rules, tests, option_map, ◌∙◌}
+use Rattle.std.proofs.lemmas.Iterator.{YieldsList-from_slice}
+use Rattle.std.proofs.lemmas.Iterator.Search.{find_from_yields_List}
+use Rattle.commands.proofs.Skipping.{is_dark, skipped_at, skipped_found}
 use Rattle.commands.proofs.line.is_skipped.Goals as goal
 
-pub returns-then-not-is_ascii_whitespace : goal.returns-then-not-is_ascii_whitespace
-returns-then-not-is_ascii_whitespace c =
-    sym (c.loop-b.invariant ∙ skipped_dark c.args.line.now c.loop-b.b-index c.loop-b-test.true (sym c.if-not-is_ascii_whitespace.ensures.value))
-
-pub loop-b-preserved : goal.loop-b-preserved
-loop-b-preserved c =
-    c.loop-b.invariant ∙ skipped_white c.args.line.now c.loop-b.b-index c.loop-b-test.true (sym c.if-not-is_ascii_whitespace.ensures.value)
-
 pub returns : goal.returns
-returns c = sym (c.loop-b.invariant ∙ skipped_none c.args.line.now c.loop-b.b-index c.loop-b-test.false)
+returns c =
+    let first = find_from_yields_List is_dark _ _ c.find-first.result c.find-first.ensures.ran (YieldsList-from_slice c.args.line.now (cc)) (λ x b q k. search (rules, tests)) in
+    let skips : c.is_none_or.result ≡ skipped_at (option_map (λ b. b.now) c.find-first.result) = search rules in
+    skips ∙ ap skipped_at first ∙ skipped_found c.args.line.now

@@ -1,22 +1,13 @@
-use Rattle.std.proofs.Common.{◌<◌, ◌≤◌, length, sym, arith}
-use Rattle.slots.specs.Items.{items}
-use Rattle.orders.proofs.Places.{none_left, found, passed}
+use Rattle.std.proofs.Common.{eqb, ◌∙◌, rules}
+use Rattle.std.proofs.lemmas.Iterator.{YieldsList-from_slice}
+use Rattle.std.proofs.lemmas.Iterator.Adapters.{position_from-zero}
+use Rattle.std.proofs.lemmas.Iterator.Search.{position_from_yields_List}
+use Rattle.orders.specs.declared.order.Order.{Order}
+use Rattle.orders.proofs.Places.{place_is}
 use Rattle.orders.proofs.search.find.Goals as goal
-
-pub returns-then-get-number : goal.returns-then-get-number
-returns-then-get-number c =
-    let os = items c.args.orders.now in
-    let h : c.loop-i.i < length os = omega (arith, c.len-i-end.ensures) in
-    sym (found c.args.number os c.loop-i.i _ c.loop-i.invariant c.get.result h c.get.ensures c.if-get-number.true)
-
-pub loop-i-preserved : goal.loop-i-preserved
-loop-i-preserved c =
-    let os = items c.args.orders.now in
-    let h : c.loop-i.i < length os = omega (arith, c.len-i-end.ensures) in
-    passed c.args.number os c.loop-i.i _ c.loop-i.invariant c.get.result h c.get.ensures c.if-get-number.false
 
 pub returns : goal.returns
 returns c =
-    let os = items c.args.orders.now in
-    let h : length os ≤ c.loop-i.i = omega (arith, c.len-i-end.ensures) in
-    sym (none_left c.args.number os c.loop-i.i _ c.loop-i.invariant h)
+    let test = λ (o : Order). eqb o.number c.args.number in
+    position_from_yields_List test _ _ c.position.result c.position.ensures.ran (YieldsList-from_slice _ c.iter.ensures.rest) (λ o b q k. search rules) ∙ position_from-zero test c.args.orders.now
+    ∙ place_is c.args.number 0 c.args.orders.now

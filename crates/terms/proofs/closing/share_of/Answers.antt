@@ -4,7 +4,7 @@ use mir.Syntax.{w128}
 use Rattle.std.proofs.lemmas.Nat.{mul-le}
 use Rattle.std.proofs.lemmas.Int.{to_z-of_z, to_z_pos, ints}
 use Rattle.terms.specs.Closing.{share}
-use Rattle.terms.proofs.Signs.{sfits_by, back}
+use Rattle.terms.proofs.Signs.{back}
 use Rattle.terms.proofs.Divisions.{nat_abs_times}
 use Rattle.terms.proofs.Shares.{share_near, share_fits}
 use Rattle.terms.proofs.closing.share_of.Goals as goal
@@ -22,39 +22,18 @@ module _ (f : ℤ) (c q : ℕ) (fits : SFits w64 f) (hc : c < 2 ^ 32) (hq : q < 
       let h : c < 2 ^ 127 = omega arith in
       rw (to_z-of_z w64 f fits, back w128 f (omega (arith, size)), to_z_pos w128 c h)
 
-  quotient : quot_z (to_z w128 (of_z w128 (to_z w128 (of_z w128 (to_z w64 (of_z w64 f))) *ℤ to_z w128 c))) (to_z w128 q) ≡ share f c q
+  shared : to_z w128 (of_z w128 (quot_z (to_z w128 (of_z w128 (to_z w128 (of_z w128 (to_z w64 (of_z w64 f))) *ℤ to_z w128 c))) (to_z w128 q))) ≡ share f c q
   unfolding share
-  quotient =
+  shared =
       let h : q < 2 ^ 127 = omega arith in
       rw (factors, back w128 (f *ℤ pos c) product, to_z_pos w128 q h)
-
-  wide : SFits w128 (share f c q)
-  wide = sfits_by w128 (share f c q) (omega (arith, share_near f c q part, size))
-
-pub overflow_mul-product : goal.overflow_mul-product
-overflow_mul-product c =
-    let f = c.args.charge in
-    let x = c.args.closed in
-    let q = c.args.quantity in
-    rw (factors f x q c.ranges.charge (omega arith) (omega arith) c.requires.part) (sfits_by w128 (f *ℤ pos x) (product f x q c.ranges.charge (omega arith) (omega arith) c.requires.part))
-
-pub nonzero_div-result : goal.nonzero_div-result
-nonzero_div-result c =
-    let f = c.args.charge in
-    let x = c.args.closed in
-    let q = c.args.quantity in
-    (omega (arith, c.requires.some), rw (quotient f x q c.ranges.charge (omega arith) (omega arith) c.requires.part) (wide f x q c.ranges.charge (omega arith) (omega arith) c.requires.part))
+      (back w128 (share f c q) (omega (arith, share_near f c q part, size)))
 
 pub overflow_cast-result-2 : goal.overflow_cast-result-2
 overflow_cast-result-2 c =
     let f = c.args.charge in
-    let x = c.args.closed in
     let q = c.args.quantity in
-    rw (
-      quotient f x q c.ranges.charge (omega arith) (omega arith) c.requires.part,
-      to_z-of_z w128 (share f x q) (wide f x q c.ranges.charge (omega arith) (omega arith) c.requires.part),
-    )
-    (share_fits f x q c.requires.part c.ranges.charge)
+    rw (shared f c.args.closed q c.ranges.charge (omega arith) (omega arith) c.requires.part) (share_fits f c.args.closed q c.requires.part c.ranges.charge)
 
 pub returns : goal.returns
 returns c =
@@ -62,7 +41,6 @@ returns c =
     let x = c.args.closed in
     let q = c.args.quantity in
     rw (
-      quotient f x q c.ranges.charge (omega arith) (omega arith) c.requires.part,
-      to_z-of_z w128 (share f x q) (wide f x q c.ranges.charge (omega arith) (omega arith) c.requires.part),
+      shared f x q c.ranges.charge (omega arith) (omega arith) c.requires.part,
       to_z-of_z w64 (share f x q) (share_fits f x q c.requires.part c.ranges.charge),
     )

@@ -8,15 +8,6 @@ use Rattle.terms.proofs.closing.split_charge.Goals as goal
 told : (f s : ℤ) (x q : ℕ) → SFits w64 f → SFits w64 s → s ≡ share (to_z w64 (of_z w64 f)) x q → to_z w64 (of_z w64 s) ≡ share f x q
 told f s x q h k e = to_z-of_z w64 s k ∙ e ∙ ap (λ (z : ℤ). share z x q) (to_z-of_z w64 f h)
 
-pub overflow_sub-rest : goal.overflow_sub-rest
-overflow_sub-rest c =
-    let f = c.args.charge in
-    let x = c.args.closed in
-    let q = c.args.quantity in
-    let s = c.share_of-share.result in
-    let one = told f s x q c.ranges.charge (record { sfits = c.share_of-share.type_inv }) c.share_of-share.ensures in
-    rw (to_z-of_z w64 f c.ranges.charge, one) (rest_fits f x q c.requires.part c.ranges.charge)
-
 pub returns : goal.returns
 returns c =
     let f = c.args.charge in

@@ -1,16 +1,11 @@
-use Rattle.std.proofs.Common.{sym, ◌∙◌}
-use Rattle.std.proofs.lemmas.Bool.{and_right}
-use Rattle.workings.proofs.Scanning.{digits_none, digits_step, digits_stop, numeral_whole}
+use Rattle.std.proofs.Common.{rules, tests}
+use Rattle.std.specs.Char.{is_ascii_digit}
+use Rattle.std.proofs.lemmas.Iterator.Adapters.{YieldsList-from_bytes}
+use Rattle.std.proofs.lemmas.Iterator.Search.{all_from_yields_List}
+use Rattle.workings.proofs.Numerals.{all_digits}
 use Rattle.workings.proofs.number.is_numeral.Goals as goal
 
-pub returns-then-not-is_ascii_digit : goal.returns-then-not-is_ascii_digit
-returns-then-not-is_ascii_digit c =
-    sym (and_right _ _ (c.loop-b.invariant ∙ digits_stop c.as_bytes-bytes.result.now c.loop-b.b-index c.loop-b-test.true (sym c.if-not-is_ascii_digit.ensures.value)))
-
-pub loop-b-preserved : goal.loop-b-preserved
-loop-b-preserved c =
-    c.loop-b.invariant ∙ digits_step c.as_bytes-bytes.result.now c.loop-b.b-index c.loop-b-test.true (sym c.if-not-is_ascii_digit.ensures.value)
-
-pub returns : goal.returns
-returns c =
-    numeral_whole _ _ _ c.is_empty.ensures (c.loop-b.invariant ∙ digits_none c.as_bytes-bytes.result.now c.loop-b.b-index c.loop-b-test.false)
+pub returns-then-not-is_empty : goal.returns-then-not-is_empty
+returns-then-not-is_empty c =
+    let every = all_from_yields_List is_ascii_digit _ _ c.all.result c.all.ensures.ran (YieldsList-from_bytes c.args.text.now (cc)) (λ x b q k. search (rules, tests)) in
+    rw (every, all_digits) (search rules)

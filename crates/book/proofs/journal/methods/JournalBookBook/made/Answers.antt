@@ -1,5 +1,0 @@
-use Rattle.book.proofs.Posting.{lawful_journal}
-use Rattle.book.proofs.journal.methods.JournalBookBook.made.Goals as goal
-
-pub returns : goal.returns
-returns c = record { value = c.len.ensures; lawful = lawful_journal c.args.self.now }
