@@ -65,7 +65,7 @@ fn write_row(rt: &HostRuntime, name: &str, sen: i128) -> io::Result<()> {
     println!(rt; "# {name:>17}  {amount:>26}")
 }
 
-// Handle and counts, here and below, and no `Desk`: nothing here answers.
+// Handle, opening and counts come one by one, here and below, and in no `Desk`: nothing here answers, and each takes what it prints.
 pub(crate) fn write_closing<B: Book>(
     rt: &HostRuntime,
     opening: &Opening,
