@@ -5,6 +5,7 @@ ghost use Rattle.accounts.specs.States.{state_of};
 
 use crate::standing::Decision;
 use crate::state::AccountState;
+use std::array::from_fn;
 
 // The state of every account. An array, since there are 256 accounts and the project keeps no heap.
 #[derive(Clone, Copy)]
@@ -40,6 +41,7 @@ impl Accounts {
         ensures states { (a : ℕ) (d : Decision) → a < 256 → state_of self.new a ≡ (slice_index_or decisions.now a d).state }
         ensures rest { (a : ℕ) → 256 ≤ a → state_of self.new a ≡ state_of self.old a }
     {
-        self.states = decisions.map(|d| d.state);
+        // by place: `map` would first take every decision over
+        self.states = from_fn(|a| decisions[a].state);
     }
 }

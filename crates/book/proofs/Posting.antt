@@ -11,7 +11,7 @@ use Rattle.terms.proofs.Signs.{negated, nat_abs_add}
 use Rattle.slots.specs.Every.{every}
 use Rattle.slots.proofs.Places.{set_at}
 use Rattle.book.specs.declared.entry.Entry.{Entry}
-use Rattle.book.specs.Meaning.{Meaning, Lawful, together, only, shift, entered, transfer_refusal, transferred}
+use Rattle.book.specs.Meaning.{Meaning, Lawful, fresh, together, only, shift, entered, transfer_refusal, transferred}
 use Rattle.book.specs.Balances.{added, kept}
 use Rattle.book.specs.Entries.{Proper, proper_entry, proper, posted, journaled}
 use Rattle.book.proofs.Sums.{shift_small, together_nil, together_add, together_shift}
@@ -42,9 +42,17 @@ lawful_entered m p q n h hp hq a =
       near = λ k l. omega (arith, h.near k l, nat_abs_add (m.balance k) (shift p q n k), shift_small p q n k a.apart);
     }
 
+pub lawful_fresh : (n : ℕ) → n ≤ 65536 → Lawful (fresh n)
+lawful_fresh n h = record { few = omega arith; even = together_nil 256; near = λ k l. omega arith }
+
+-- a balance, after z was added to that of account a
+pub added_at : (bs : List ℤ) (a k : ℕ) (z : ℤ) → a < length bs → get_or (added bs a z) k (pos 0) ≡ get_or bs k (pos 0) +ℤ only a z k
+unfolding only
+added_at bs a k z h = let e = set_at bs a k (get_or bs a (pos 0) +ℤ z) (pos 0) h in grind (arith, nat_tests, ints)
+
 -- the payer's balance lowered, then the payee's raised: one entry more
 module _ (bs : List ℤ) (p q n : ℕ) (hp : p < length bs) (hq : q < length bs) where
-  paid_at : (k : ℕ) → get_or (added (added bs p (neg_ℤ (pos n))) q (pos n)) k (pos 0) ≡ get_or bs k (pos 0) +ℤ shift p q n k
+  pub paid_at : (k : ℕ) → get_or (added (added bs p (neg_ℤ (pos n))) q (pos n)) k (pos 0) ≡ get_or bs k (pos 0) +ℤ shift p q n k
   unfolding shift only
   paid_at k =
       let less = get_or bs p (pos 0) +ℤ neg_ℤ (pos n) in
@@ -54,10 +62,14 @@ module _ (bs : List ℤ) (p q n : ℕ) (hp : p < length bs) (hq : q < length bs)
       let old = set_at bs p q less (pos 0) hp in
       grind (arith, nat_tests, ints)
 
+  -- what they mean is the meaning with one entry more
+  pub paid_is : (made left : ℕ) → kept (added (added bs p (neg_ℤ (pos n))) q (pos n)) (made + 1) (left - 1) ≡ entered (kept bs made left) p q n
+  paid_is made left = ap (λ (b : ℕ → ℤ). record { balance = b; made = made + 1; left = left - 1 }) (fun_ext paid_at)
+
   -- as the code casts and negates the amount
   pub paid_means : (bs₁ bs₂ : List ℤ) (made left : ℕ) → n < 2 ^ 63 → bs₁ ≡ added bs p (to_z w64 (of_z w64 (pos 0 -ℤ to_z w64 n))) → bs₂ ≡ added bs₁ q (to_z w64 n)
       → kept bs₂ (made + 1) (left - 1) ≡ entered (kept bs made left) p q n
-  paid_means bs₁ bs₂ made left h e f = rw (f, e, negated w64 n h, to_z_pos w64 n h) (ap (λ (b : ℕ → ℤ). record { balance = b; made = made + 1; left = left - 1 }) (fun_ext paid_at))
+  paid_means bs₁ bs₂ made left h e f = rw (f, e, negated w64 n h, to_z_pos w64 n h) (paid_is made left)
 
 -- a lawful entry as a test, and back
 pub proper_test : (e : Entry) → Proper e → proper_entry e ≡ true

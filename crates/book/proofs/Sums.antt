@@ -19,6 +19,20 @@ unfolding together
 together_add zero f g = refl
 together_add (suc n) f g = let e = together_add n f g in omega (arith, ints)
 
+pub together_sub : (n : ℕ) (f g : ℕ → ℤ) → together n (λ k. f k -ℤ g k) ≡ together n f -ℤ together n g
+unfolding together
+together_sub zero f g = refl
+together_sub (suc n) f g = let e = together_sub n f g in omega (arith, ints)
+
+-- what is added to one account is added to the sum, where it is among the accounts
+together_one : (n a : ℕ) (z : ℤ) → together n (only a z) ≡ cond (ltb a n) z (pos 0)
+unfolding together only
+together_one zero a z = grind (arith, nat_tests, ints)
+together_one (suc n) a z = let e = together_one n a z in grind (arith, nat_tests, ints)
+
+pub together_only : (n a : ℕ) (z : ℤ) → a < n → together n (only a z) ≡ z
+together_only n a z h = let e = together_one n a z in grind (arith, nat_tests, ints)
+
 -- a transfer raises and lowers the sum where payee and payer are among the accounts
 together_parts : (n p q x : ℕ) → together n (shift p q x) ≡ cond (ltb q n) (pos x) (pos 0) -ℤ cond (ltb p n) (pos x) (pos 0)
 unfolding together shift only

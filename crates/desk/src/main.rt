@@ -8,6 +8,7 @@ use std::{env, fmt, fs, io};
 
 mod answer;
 mod counts;
+mod lines;
 mod report;
 mod serve;
 mod several;

@@ -9,6 +9,7 @@ ghost use Rattle.desk.specs.Serving.{commanded, command_counted, early_counted, 
 
 use crate::answer::{Answer, admit_counted, deposit};
 use crate::counts::Counts;
+use crate::lines::{Lines, too_long};
 use crate::report::{write_closing, write_no_ledger, write_state, write_statement};
 use book::{Book, Entry, JournalBook, RunningBook};
 use commands::command::{Command, parse};
@@ -16,7 +17,7 @@ use commands::line::{is_skipped, split, text_of};
 use commands::opening::{Kind, Opening, Request};
 use commands::unreadable::Unreadable;
 use std::io;
-use std::io::{BufRead, Split};
+use std::io::BufRead;
 
 // A desk at work: where it prints, and what it has counted since it last closed a ledger.
 #[derive(Drop)]
@@ -26,7 +27,7 @@ struct Desk<'a> {
 }
 
 pub(crate) fn run<R: BufRead + Drop>(rt: &HostRuntime, reader: R) -> io::Result<()> {
-    let mut lines = reader.split(rt.alloc(), b'\n');
+    let mut lines = Lines::new(rt.alloc(), reader);
     let mut desk = Desk {
         rt,
         counts: Counts::new(),
@@ -43,27 +44,30 @@ pub(crate) fn run<R: BufRead + Drop>(rt: &HostRuntime, reader: R) -> io::Result<
         next = desk.with_ledger(&opening, &mut lines)?;
         desk.counts = Counts::new();
     }
-    Err(io::Error::other("the script has more than 18,446,744,073,709,551,615 lines"))
+    Err(too_long())
 }
 
 impl<'a> Desk<'a> {
     // Answers the commands of a script, until one of them leads to a ledger.
-    fn answer_lines<
-        R: BufRead + Drop,
-        F: FnMut(&mut Desk<'a>, Command) -> io::Result<Option<Opening>>,
-    >(&mut self, lines: &mut Split<R>, mut answer: F) -> io::Result<Option<Opening>>
+    fn answer_lines<R: BufRead, F: FnMut(&mut Desk<'a>, Command) -> io::Result<Option<Opening>>>(
+        &mut self,
+        lines: &mut Lines<R>,
+        mut answer: F,
+    ) -> io::Result<Option<Opening>>
         requires { (state : F) (desk : _) (command : _) → F.pre state desk command }
     {
-        for line in lines {
-            let line = line?;
-            if let Some(command) = self.command_of(line.as_slice())? {
+        for _ in 0..u64::MAX {
+            let Some(line) = lines.next()? else {
+                return Ok(None);
+            };
+            if let Some(command) = self.command_of(line)? {
                 let opening = answer(self, command)?;
                 if opening.is_some() {
                     return Ok(opening);
                 }
             }
         }
-        Ok(None)
+        Err(too_long())
     }
 
     // Answers a command before any ledger, but for a taken `open`, which it hands on.
@@ -83,10 +87,10 @@ impl<'a> Desk<'a> {
     }
 
     // Makes the book of an opening and serves it until the next taken `open`. Each kind is a type of its own; a `dyn Book` would be made in the same two arms, of books declared before them.
-    fn with_ledger<R: BufRead + Drop>(
+    fn with_ledger<R: BufRead>(
         &mut self,
         opening: &Opening,
-        lines: &mut Split<R>,
+        lines: &mut Lines<R>,
     ) -> io::Result<Option<Opening>> {
         match opening.layout.kind {
             Kind::Running => {
@@ -105,11 +109,11 @@ impl<'a> Desk<'a> {
         }
     }
 
-    fn serve<B: Book, R: BufRead + Drop>(
+    fn serve<B: Book, R: BufRead>(
         &mut self,
         opening: &Opening,
         book: &mut B,
-        lines: &mut Split<R>,
+        lines: &mut Lines<R>,
     ) -> io::Result<Option<Opening>> {
         println!(self.rt; "{}", Answer::Opened)?;
         let next = self.answer_lines(lines, |desk, command| desk.answer_command(book, command))?;

@@ -52,7 +52,7 @@ pub record Found (n i : ℕ) (os : List Order) : Type 0 where
   pub left : remove os i ≡ without n os
 
 -- counted from k
-found_from : (n k i low high : ℕ) (os : List Order) → place_from k n os ≡ Some i → rising low high os ≡ true → (k ≤ i) × Found n (i - k) os
+pub found_from : (n k i low high : ℕ) (os : List Order) → place_from k n os ≡ Some i → rising low high os ≡ true → (k ≤ i) × Found n (i - k) os
 unfolding place_from held
 found_from n k i low high [] e s = absurd cc
 found_from n k i low high (o ∷ os) e s =

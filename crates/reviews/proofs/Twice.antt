@@ -19,7 +19,7 @@ use Rattle.accounts.specs.Review.{reviewed, falls, lacks}
 use Rattle.accounts.specs.States.{state_of}
 use Rattle.reviews.specs.Standings.{standing_of}
 use Rattle.reviews.specs.Reviews.{judged, orders_spared, decided, orders_left, ReviewingAllTwiceIsOnce, JudgingAllTwiceIsOnce}
-use Rattle.reviews.proofs.Kept.{kept_alike, kept_again, owned}
+use Rattle.reviews.proofs.Kept.{kept_alike, kept_still, owned}
 
 -- fewer orders need no more margin
 pub margin_fewer : (keeps : Order → Bool) (a percent mark : ℕ) (os : List Order) → margin_of a percent mark (filter keeps os) ≤ margin_of a percent mark os
@@ -47,7 +47,7 @@ judged_again m p spot mark ls os left states after put less kept =
     let due : ℕ → Decision = judged m p spot mark ls os states in
     let s : List Order → ℕ → Standing = standing_of m p spot mark ls in
     let again : Order → Bool = λ (o : Order). not (judged m p spot mark ls left after o.account).void in
-    let stays = kept_again (λ (o : Order). not (due o.account).void) again
+    let stays = kept_still (λ (o : Order). not (due o.account).void) again
     (λ o spared.
     let a = o.account in
     let e : (judged m p spot mark ls left after a).void ≡ false =
@@ -58,7 +58,7 @@ judged_again m p spot mark ls os left states after put less kept =
 pub judged_twice : JudgingAllTwiceIsOnce
 judged_twice m p spot mark ls os states after put =
     let spared : Order → Bool = λ (o : Order). not (judged m p spot mark ls os states o.account).void in
-    judged_again m p spot mark ls os (filter spared os) states after put (λ a. margin_fewer spared a p mark os) (kept_again spared spared (λ o h. h) os)
+    judged_again m p spot mark ls os (filter spared os) states after put (λ a. margin_fewer spared a p mark os) (kept_still spared spared (λ o h. h) os)
 
 -- the accounts past those that there are can be in any state, since no order is theirs
 pub twice : ReviewingAllTwiceIsOnce

@@ -2,6 +2,7 @@
 #![tactic(auto)]
 
 pub mod exposure;
+pub mod held;
 pub mod review;
 pub mod standing;
 

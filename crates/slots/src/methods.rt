@@ -53,7 +53,8 @@ impl<'a, T: Copy> List<'a, T> {
         requires { i < length (items self.now) }
         ensures { result ≡ slice_index_or (items self.now) i result }
     {
-        self.as_slice()[i]
+        let records: &[T] = self.slots;
+        records[i]
     }
 
     // Puts `x` in the place of record `i`, which comes back.

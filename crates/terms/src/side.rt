@@ -1,5 +1,5 @@
 ghost use Rattle.std.specs.Prelude.{◌≡◌};
-ghost use Rattle.terms.specs.Codes.{side_byte, side_read};
+ghost use Rattle.terms.specs.Codes.{same_side, side_byte, side_read};
 
 use crate::codes::coded;
 use crate::refusal::Refusal;
@@ -9,6 +9,15 @@ use crate::refusal::Refusal;
 pub enum Side {
     Buy = 0,
     Sell = 1,
+}
+
+impl Side {
+    // Whether both are the same side, as `==` tells it.
+    pub fn is(self, other: Side) -> bool
+        ensures { result ≡ same_side self other }
+    {
+        self == other
+    }
 }
 
 impl TryFrom<u8> for Side {

@@ -25,17 +25,17 @@ own : IsNumeralModel (λ ds. all_ascii_digits ds ≡ true) written
 own = numerals_by_fold _ tells_all_ascii_digits written_after folds
 
 -- `parse` gives the number that is written, unless that passes 64 bits
-parsed : {E : Type 0} (text : List ℕ) (r : Result ℕ E) → ParsesUnsigned 64 10 text r → numeral text ≡ true → OkIff r ((0 < length text) × (written text < 2 ^ 64)) (written text)
+pub parsed : {E : Type 0} (text : List ℕ) (r : Result ℕ E) → ParsesUnsigned 64 10 text r → numeral text ≡ true → OkIff r ((0 < length text) × (written text < 2 ^ 64)) (written text)
 parsed text r h digits = parse_digits own 64 text r h (and_parts _ _ digits).1
 
 some_digit : (text : List ℕ) → numeral text ≡ true → 0 < length text
 some_digit text digits = ltb-true 0 (length text) (and_parts _ _ digits).0
 
-number_above : (most : ℕ) (text : List ℕ) → numeral text ≡ true → most < written text → Err TooLarge ≡ number_read most text
+pub number_above : (most : ℕ) (text : List ℕ) → numeral text ≡ true → most < written text → Err TooLarge ≡ number_read most text
 number_above most text digits h = rw (digits, lt-leb (written text) most h)
 
 -- `parse` refuses digits only where what they write does not fit
-past_the_end : (most : ℕ) (text : List ℕ) → numeral text ≡ true → most < 2 ^ 64 → ((0 < length text) × (written text < 2 ^ 64) → ⊥) → most < written text
+pub past_the_end : (most : ℕ) (text : List ℕ) → numeral text ≡ true → most < 2 ^ 64 → ((0 < length text) × (written text < 2 ^ 64) → ⊥) → most < written text
 past_the_end most text digits fits refused =
     ⊎_elim (λ h. absurd (refused (some_digit text digits, h))) (λ h. omega arith) (cases_lt (written text) (2 ^ 64))
 

@@ -13,4 +13,5 @@ pub mod shown;
 pub mod topic;
 pub mod work;
 pub mod work_fault;
+pub mod worked;
 pub mod working;

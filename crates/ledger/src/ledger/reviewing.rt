@@ -6,8 +6,7 @@ use crate::ledger::Ledger;
 use accounts::Standing;
 use accounts::review::clear;
 use book::Book;
-use reviews::review::review;
-use reviews::standing::standing_of;
+use reviews::held::{review, standing_of};
 use terms::{Price, Valuation};
 
 impl Ledger<'_> {
