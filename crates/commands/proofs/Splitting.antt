@@ -1,14 +1,17 @@
--- The words that `split_whitespace` gives.
-use Rattle.std.proofs.Common.{ℕ, List, [], ◌∷◌, None, sym, subst, Bor}
-use Rattle.std.specs.Char.{is_not_whitespace}
-use Rattle.std.specs.Iterator.{Yields}
-use Rattle.std.specs.Str.{NoCharPasses}
-use Rattle.std.specs.Str.Iter.{split_whitespace_rest, split_whitespace_steps}
-use Rattle.std.specs.declared.str.SplitWhitespace.{SplitWhitespace}
-use Rattle.workings.specs.Lines.{Words, texts}
+-- The words that a loop over `split_whitespace` has gathered.
+use Rattle.std.proofs.Common.{◌≡◌, ℕ, ◌<◌, List, [], ◌∷◌, ◌++◌, length, sym, refl, ap, ◌∙◌, subst, Bor}
+use Rattle.std.specs.Char.{is_whitespace, is_not_whitespace}
+use Rattle.std.specs.Str.{NoCharPasses, EmptyOrStartsWithPassing}
+use Rattle.workings.specs.Lines.{First, Words, texts}
 
-pub words_given : (xs : List (Bor (List ℕ))) (s t u : SplitWhitespace) → Yields split_whitespace_steps s xs t → split_whitespace_steps t None u → Words (split_whitespace_rest s) (texts xs)
-words_given [] s t u given end = subst (λ v. NoCharPasses is_not_whitespace (split_whitespace_rest v)) (sym given) end.1
-words_given (x ∷ xs) s t u given end =
-    let cut = given.1 in
-    (split_whitespace_rest given.0, record { gap = cut.0; cut = cut.1; some = cut.2; blank = cut.3; solid = cut.4; ends = cut.5 }, words_given xs given.0 t u given.2 end)
+-- what `split_whitespace` says of an item
+pub first_of : (bs w rest : List ℕ) → (gap : List ℕ) × (bs ≡ gap ++ (w ++ rest)) × (0 < length w) × NoCharPasses is_not_whitespace gap × NoCharPasses is_whitespace w × ((more : List ℕ) × EmptyOrStartsWithPassing is_whitespace rest more) → First bs w rest
+first_of bs w rest cut = record { gap = cut.0; cut = cut.1; some = cut.2; blank = cut.3; solid = cut.4; ends = cut.5 }
+
+texts_push : (xs : List (Bor (List ℕ))) (x : Bor (List ℕ)) (ws : List (List ℕ)) → texts (xs ++ x ∷ []) ++ ws ≡ texts xs ++ x.now ∷ ws
+texts_push [] x ws = refl
+texts_push (y ∷ ys) x ws = ap (λ l. y.now ∷ l) (texts_push ys x ws)
+
+-- xs are the words so far, before rest; x is one more
+pub word_more : (text : List ℕ) (xs : List (Bor (List ℕ))) (x : Bor (List ℕ)) (ys : List (Bor (List ℕ))) {rest next : List ℕ} → ys ≡ xs ++ x ∷ [] → ((ws : List (List ℕ)) → Words rest ws → Words text (texts xs ++ ws)) → First rest x.now next → (ws : List (List ℕ)) → Words next ws → Words text (texts ys ++ ws)
+word_more text xs x ys {rest} {next} e old first ws h = subst (Words text) (sym (ap (λ l. texts l ++ ws) e ∙ texts_push xs x ws)) (old (x.now ∷ ws) (next, first, h))

@@ -23,7 +23,7 @@ pub fn worth(lot: Lot, time: u32, price: Price) -> i64
 }
 
 // A holding with one lot more.
-// Time and lot come one by one, as to `worth`, which is asked of a single lot too: whole lists bring both in `Lots`.
+// Time and lot come one by one, as to `worth`, which is asked of a single lot too.
 fn with(h: Holding, lot: Lot, time: u32, price: Price) -> Holding
     requires time { time ≤ 94694399 }
     requires lot { lawful_lot time lot ≡ true }
@@ -38,7 +38,7 @@ fn with(h: Holding, lot: Lot, time: u32, price: Price) -> Holding
 }
 
 // What every account holds, closed out at a price: one pass over the lots. An array by account number, as in `by_account`.
-// Over a list that a caller has, here and below, of lots as they stand at a time: `Lots` owns its list, so who has lent it out could make none.
+// Over a list that a caller has, here and below, of lots as they stand at a time: `Lots` owns its list, so whoever has been lent one can make none.
 pub fn holdings(lots: &List<Lot>, time: u32, price: u32) -> [Holding; 256]
     requires time { time ≤ 94694399 }
     requires price { price ≤ 100000000 }

@@ -28,7 +28,7 @@ pub fn margin(order: Order, settings: &Settings, mark: Price) -> u64
 // The margins of every account's orders: one pass over the orders.
 // An array by account number, as in `by_account`. Bounds, here and below, are of plain numbers that callers add up.
 // Settings and mark come apart: a valuation would have a caller name a spot too, which this does not read.
-// Over a list that a caller has, here and below: `Orders` owns its list, so who has lent it out could make none.
+// Over a list that a caller has, here and below: `Orders` owns its list, so whoever has been lent one can make none.
 pub fn margins(orders: &List<Order>, settings: &Settings, mark: u32) -> [u64; 256]
     requires mark { mark ≤ 100000000 }
     requires few { capacity orders.now ≤ 4096 }

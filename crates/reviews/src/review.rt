@@ -33,7 +33,8 @@ fn decide<B: Book>(
     if exposure.holding.units == 0 && exposure.ordered == 0 {
         return Decision { state, void: false };
     }
-    review_one(account, state, standing(book, account, exposure, valuation))
+    let standing = standing(book, account, exposure, &valuation.settings, valuation.spot);
+    review_one(account, state, standing)
 }
 
 // Decides of every account, puts it into its state from then on, and answers whose orders are void: one pass over the lots, one over the orders, one over the accounts.

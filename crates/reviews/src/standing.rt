@@ -13,7 +13,7 @@ use orders::margins::margins;
 use slots::List;
 use terms::margins::requirement;
 use terms::ranges::PROPRIETARY;
-use terms::{Lot, Price, Settings, Valuation};
+use terms::{Lot, Settings};
 
 // How an account stands, by its balance and what it has at stake. The proprietary account needs no margin.
 // That margin and units are small is promised here and below, and is no fact of the type: what reviews decide is said of any figures.
@@ -22,9 +22,10 @@ pub fn standing<B: Book>(
     book: &B,
     account: u8,
     exposure: Exposure,
-    valuation: &Valuation,
+    settings: &Settings,
+    spot: u32,
 ) -> Standing
-    ensures value { result ≡ standing_by ((B.meaning book.now).balance account) valuation.now.settings.margin_percent valuation.now.spot account exposure.holding exposure.ordered }
+    ensures value { result ≡ standing_by ((B.meaning book.now).balance account) settings.now.margin_percent spot account exposure.holding exposure.ordered }
     ensures small { result.margin ≤ 200000000000000000 }
 {
     let Exposure { holding, ordered } = exposure;
@@ -37,7 +38,7 @@ pub fn standing<B: Book>(
             units: holding.units,
         };
     }
-    let requirement = requirement(&valuation.settings, valuation.spot, holding.units);
+    let requirement = requirement(settings, spot, holding.units);
     Standing {
         equity,
         requirement,
@@ -67,16 +68,11 @@ pub fn standing_of<B: Book>(
     ensures few { result.units ≤ 50000 * 4096 }
     ensures small { result.margin ≤ 200000000000000000 }
 {
-    let valuation = Valuation {
-        settings: *settings,
-        spot,
-        mark: Price { yen: mark },
-    };
     let held = holdings(lots, time, mark);
     let ordered = margins(orders, settings, mark);
     let exposure = Exposure {
         holding: held[account as usize],
         ordered: ordered[account as usize],
     };
-    standing(book, account, exposure, &valuation)
+    standing(book, account, exposure, settings, spot)
 }

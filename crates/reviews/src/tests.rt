@@ -5,7 +5,7 @@ use book::{Book, RunningBook};
 use lots::Holding;
 use std::process::Abort;
 use std::test::Fail;
-use terms::{Price, Settings, Valuation};
+use terms::Settings;
 
 // With so many sen in the book, 100 units that gain 100 sen, orders that need 7 yen, spot 10,000,001 and 50 %.
 fn told(rt: &impl Abort, account: u8, sen: u64) -> Result<Standing, Fail> {
@@ -18,12 +18,8 @@ fn told(rt: &impl Abort, account: u8, sen: u64) -> Result<Standing, Fail> {
         },
         ordered: 7,
     };
-    let valuation = Valuation {
-        settings: Settings::new(0, 1, 0, 50)?,
-        spot: 10_000_001,
-        mark: Price { yen: 10_000_001 },
-    };
-    Ok(standing(&book, account, exposure, &valuation))
+    let settings = Settings::new(0, 1, 0, 50)?;
+    Ok(standing(&book, account, exposure, &settings, 10_000_001))
 }
 
 #[test]

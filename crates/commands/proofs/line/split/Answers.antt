@@ -1,10 +1,18 @@
-use Rattle.std.proofs.Common.{sym, subst}
-use Rattle.std.proofs.lemmas.Result.{IfOk-weaker}
+use Rattle.std.proofs.Common.{[], vec_items, ap, ◌∙◌, subst, append-nil}
 use Rattle.std.specs.Str.Iter.{split_whitespace_rest}
-use Rattle.workings.specs.Lines.{Words, texts}
-use Rattle.commands.proofs.Splitting.{words_given}
+use Rattle.workings.specs.Lines.{Words}
+use Rattle.commands.proofs.Splitting.{first_of, word_more}
 use Rattle.commands.proofs.line.split.Goals as goal
 
+pub loop-word-init : goal.loop-word-init
+loop-word-init c =
+    let whole = ap split_whitespace_rest c.into_iter-word-iterator.ensures.into_iter_gives ∙ c.split_whitespace-word-items.ensures.rest in
+    rw (whole, c.new-words.ensures.items) (λ ws h. h)
+
+pub loop-word-preserved : goal.loop-word-preserved
+loop-word-preserved c =
+    let first = first_of _ c.in-Some.word.now _ c.in-Some.ensures.steps in
+    word_more c.args.text.now (vec_items c.loop-word.words) c.in-Some.word (vec_items c.push.new.self) c.in_ok-push.ensures.items c.loop-word.invariant first
+
 pub returns : goal.returns
-returns c =
-    IfOk-weaker c.collect.result _ _ (λ v d. subst (λ bs. Words bs (texts v.items)) c.split_whitespace.ensures.rest (subst (λ xs. Words (split_whitespace_rest c.split_whitespace.result) (texts xs)) (sym d.2.0) (words_given d.0 _ _ _ d.1.1 (d.1.2 tt).1))) c.collect.ensures.ran
+returns c = subst (Words c.args.text.now) (append-nil _) (c.loop-word.invariant [] c.in-None.ensures.steps.1)
